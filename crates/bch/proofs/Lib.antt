@@ -1,0 +1,7 @@
+pub mod Sums
+pub mod Division
+pub mod Weights
+pub mod Syndromes
+pub mod Places
+pub mod Octets
+pub mod Laws

@@ -1,0 +1,4 @@
+pub mod Polynomial
+pub mod Codeblock
+pub mod Reception
+pub mod Laws

@@ -1,0 +1,2 @@
+-- What octets are as hexadecimal text. Assumes nothing.
+pub mod Text

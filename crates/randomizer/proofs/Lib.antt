@@ -1,0 +1,3 @@
+mod Rule
+mod Period
+pub mod Laws
