@@ -21,12 +21,12 @@ length-filled frame = simp (length-append, length-replicate) (omega arith)
 
 filled-at : (frame : List ℕ) (place : ℕ) → place < 7 * codeblocks-for (length frame) → getD (filled frame) place 0 ≡ getD frame place 0x55
 filled-at frame place h =
-    let fill = replicate (fill-for (length frame)) 0x55 in
+    let fill : List ℕ = replicate (fill-for (length frame)) 0x55 in
     ⊎-elim
     (λ within. getD-append-left frame fill 0 place within ∙ getD-default frame place 0 0x55 within)
     (λ past.
-        getD-append-right frame fill (length frame) place 0 refl past ∙ getD-replicate (fill-for (length frame)) (place - length frame) 0x55 0 (omega arith)
-        ∙ sym (getD-past frame place 0x55 past))
+    getD-append-right frame fill (length frame) place 0 refl past ∙ getD-replicate (fill-for (length frame)) (place - length frame) 0x55 0 (omega arith)
+    ∙ sym (getD-past frame place 0x55 past))
     (cases-lt place (length frame))
 
 -- the octets that are coded

@@ -72,7 +72,11 @@ fn put(memory: &mut [u8], at: usize, octets: &[u8])
 fn filled_octet(frame: &[u8], place: usize) -> u8
     ensures { λ r. ⌜ r ≡ getD (now (frame .entry)) place 0x55 ⌝ }
 {
-    if place < frame.len() { frame[place] } else { FILL }
+    if place < frame.len() {
+        frame[place]
+    } else {
+        FILL
+    }
 }
 
 impl Sender {
@@ -105,7 +109,11 @@ impl Sender {
         ensures { λ _. ⌜ now (memory .exit) ≡ take 2 (now (memory .entry)) ++ (coded count (randomized (self .randomizer) (filled (now (frame .entry)))) ++ drop (2 + 8 * count) (now (memory .entry))) ⌝ }
     {
         for k in 0..count {
-            put(memory, 2 + 8 * k, &codeblock(self.information(frame, 7 * k)));
+            put(
+                memory,
+                2 + 8 * k,
+                &codeblock(self.information(frame, 7 * k)),
+            );
         }
     }
 

@@ -1,6 +1,6 @@
 //! Octets as hexadecimal text, for programs on the ground that read and print frames.
 ghost use mathlib.Core.Path.{_≡_};
-ghost use Prim.Native.Nat.{_<_};
+ghost use Prim.Native.Nat.{_/_, _%_, _<_};
 ghost use Rattle.std.specs.Of.String.{string-bytes};
 ghost use Rattle.std.specs.Of.Vec.{vec-items};
 ghost use Rattle.std.specs.Options.{mapped};
@@ -39,9 +39,9 @@ pub fn capitals(heap: Global, octets: &[u8]) -> Result<String, AllocError>
 {
     let mut text = String::new(heap);
     for octet in octets {
-        let (high, low) = (*octet / 16, *octet % 16);
-        text.push(char::from(capital_digit(high)))?;
-        text.push(char::from(capital_digit(low)))?;
+        let (high, low) = octet_digits(*octet);
+        text.push(high)?;
+        text.push(low)?;
     }
     Ok(text)
 }
@@ -65,15 +65,22 @@ fn digit_value(digit: u8) -> Option<u8>
     }
 }
 
+/// The two capital hexadecimal digits of an octet, the high digit first.
+fn octet_digits(octet: u8) -> (char, char)
+    ensures { λ r. ⌜ r ≡ (capital-digit (octet / 16), capital-digit (octet % 16)) ⌝ }
+{
+    (capital_digit(octet / 16), capital_digit(octet % 16))
+}
+
 /// The capital hexadecimal digit of a value below 16.
-fn capital_digit(value: u8) -> u8
+fn capital_digit(value: u8) -> char
     requires { ⌜ value < 16 ⌝ }
     ensures { λ r. ⌜ r ≡ capital-digit value ⌝ }
 {
     if value < 10 {
-        b'0' + value
+        char::from(b'0' + value)
     } else {
-        b'A' + (value - 10)
+        char::from(b'A' + (value - 10))
     }
 }
 

@@ -32,9 +32,9 @@ loop-k-again c =
     c .put .ensures ∙ ap (λ (m : List ℕ). take (2 + 8 * k) m ++ (block ++ drop (2 + 8 * k + length block) m)) (c .loop-k .inv)
     ∙ put-behind front block was (2 + 8 * k) written
     ∙ ap₂ (λ (l : List ℕ) (n : ℕ). l ++ drop n was)
-      (append-assoc (take 2 was) (coded k xs) block
-      ∙ ap (λ l. take 2 was ++ l) (ap (λ l. coded k xs ++ l) (c .codeblock .ensures ∙ ap codeblock (c .information .ensures)) ∙ sym (coded-more k xs)))
-      next
+    (append-assoc (take 2 was) (coded k xs) block
+    ∙ ap (λ l. take 2 was ++ l) (ap (λ l. coded k xs ++ l) (c .codeblock .ensures ∙ ap codeblock (c .information .ensures)) ∙ sym (coded-more k xs)))
+    next
 
 pub returns : need.returns
 returns c =
