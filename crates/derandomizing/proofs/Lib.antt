@@ -1,0 +1,2 @@
+-- Laws of the layer. Assumes nothing.
+pub mod Shown

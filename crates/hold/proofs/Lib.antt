@@ -1,0 +1,2 @@
+-- Laws of holds. Assumes nothing.
+pub mod Copies
