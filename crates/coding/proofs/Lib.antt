@@ -1,2 +1,3 @@
+-- The lemmas that the proofs of this crate share. Assumes nothing.
 mod Remainders
 mod Received

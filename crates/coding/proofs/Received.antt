@@ -1,15 +1,14 @@
 -- The received polynomial and its remainders. Assumes nothing.
-use mathlib.Core.Path.{_≡_, refl, sym, ap, ap₂, _∙_, subst}
-use mathlib.Core.List.{List, [], _∷_}
-use Prim.Native.Nat.{ℕ, zero, suc, _+_, _*_, _/_, _%_, _^_, _<_, _≤_}
-use native.Mathlib.Nat.{mul-comm, one-mul, pow-succ'}
+use mathlib.Core.Path.{_≡_, refl, sym, ap, ap₂, _∙_}
+use Prim.Native.Nat.{ℕ, suc, _+_, _*_, _/_, _%_, _^_, _<_, _≤_}
+use native.Mathlib.Nat.{mul-comm, pow-succ'}
 use native.Mathlib.Omega.{arith}
-use lib.Bits.{bitXor, xor-assoc, xor-zero-r, xor-block, xor-shifted, xor-lt}
+use lib.Bits.{xor-assoc, xor-zero-r, xor-block, xor-shifted, xor-lt}
 use lib.Count.{ones}
-use lib.Pow.{shr-lt, pow-lt}
+use lib.Pow.{pow-lt}
 use Rattle.std.specs.shelf.Digits.{number}
 use Rattle.bch.specs.Polynomial.{_⊕_, weight, divided, remainder}
-use Rattle.bch.specs.Codeblock.{generator, octet, information-of}
+use Rattle.bch.specs.Codeblock.{generator, information-of}
 use Rattle.bch.specs.Reception.{syndrome-polynomial, received, power-remainder}
 use Rattle.bch.proofs.Division.{divided-sum, divided-low, divided-more, divided-lower, power-of-remainder}
 use Rattle.bch.proofs.Syndromes.{parity-of-remainder}

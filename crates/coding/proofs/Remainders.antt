@@ -1,20 +1,20 @@
 -- The remainder of X^7 · I(X), octet by octet. Assumes nothing.
-use mathlib.Core.Path.{_≡_, refl, sym, ap, ap₂, _∙_, subst}
+use mathlib.Core.Path.{_≡_, refl, sym, ap, _∙_, subst}
 use mathlib.Core.List.{List, map}
 use Prim.Native.Nat.{ℕ, _+_, _*_, _%_, _^_, _<_, _≤_}
 use native.Mathlib.Nat.{zero-add, pow-le-pow-right}
 use native.Mathlib.Omega.{arith}
-use lib.Bits.{bitXor, xor-shifted}
+use lib.Bits.{xor-shifted}
 use lib.ListN.{getD, length, take}
 use Rattle.std.specs.Iters.{counting}
-use Rattle.std.specs.shelf.Digits.{number, Under}
+use Rattle.std.specs.shelf.Digits.{number}
 use Rattle.std.proofs.shelf.Counted.{getD-map-counting}
 use Rattle.std.proofs.shelf.Digits.{number-more, number-lt}
 use Rattle.std.proofs.shelf.Elements.{all-take, all-from-getD}
 use Rattle.std.proofs.shelf.Lists.{length-take-le}
-use Rattle.bch.specs.Polynomial.{_⊕_, divided, remainder}
+use Rattle.bch.specs.Polynomial.{_⊕_, remainder}
 use Rattle.bch.specs.Codeblock.{generator}
-use Rattle.bch.proofs.Sums.{power-sum, power-power}
+use Rattle.bch.proofs.Sums.{power-sum}
 use Rattle.bch.proofs.Division.{divided-sum, divided-lower, power-of-remainder}
 
 -- what the table holds

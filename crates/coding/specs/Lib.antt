@@ -1,0 +1,1 @@
+-- No definitions of its own: those of the code are in the crate bch. Assumes nothing.

@@ -5,7 +5,7 @@ ghost use mathlib.Core.List.{_∷_, [], _++_};
 ghost use Prim.Native.Nat.{ℕ, _*_, _%_, _^_, _<_, _≤_};
 ghost use Rattle.std.specs.shelf.Digits.{number as number-of};
 ghost use Rattle.bch.specs.Polynomial.{weight, remainder as remainder-by};
-ghost use Rattle.bch.specs.Codeblock.{generator, check-bits, codeblock, information-of};
+ghost use Rattle.bch.specs.Codeblock.{generator, complemented, check-bits, codeblock, information-of};
 ghost use Rattle.bch.specs.Reception.{syndrome-polynomial, received, syndrome, place-from, wrong-place, turned, judged, verdict};
 ghost use Rattle.bch.specs.Laws.{Is-the-wrong-place, Absent-only-at-zero, Undamaged-is-accepted, One-wrong-bit-is-corrected, Two-wrong-bits-are-rejected, One-or-three-wrong-bits-are-detected};
 ghost use Rattle.bch.specs.declared.Verdict.the-variants.{Accepted};
@@ -50,11 +50,26 @@ fn information_remainder(information: &[u8; 7]) -> u8
     remainder
 }
 
+fn complemented(bits: u8) -> u8
+    requires { ⌜ bits < 2 ^ 7 ⌝ }
+    ensures value { λ r. ⌜ r ≡ complemented bits ⌝ }
+    ensures bound { λ r. ⌜ r < 2 ^ 7 ⌝ }
+{
+    bits ^ 0x7F
+}
+
+fn with_filler(check: u8) -> u8
+    requires { ⌜ check < 2 ^ 7 ⌝ }
+    ensures { λ r. ⌜ r ≡ 2 * check ⌝ }
+{
+    check << 1
+}
+
 // The check bits and the filler.
 fn check_octet(information: &[u8; 7]) -> u8
     ensures { λ r. ⌜ r ≡ 2 * check-bits (number-of 256 (now (information .entry))) ⌝ }
 {
-    (information_remainder(information) ^ 0x7F) << 1
+    with_filler(complemented(information_remainder(information)))
 }
 
 fn followed_by(information: [u8; 7], last: u8) -> [u8; 8]
@@ -80,7 +95,7 @@ fn received_remainder(word: u64) -> u8
     ensures degree { λ _. ⌜ received word < 2 ^ 63 ⌝ }
 {
     let [a, b, c, d, e, f, g, check] = word.to_be_bytes();
-    information_remainder(&[a, b, c, d, e, f, g]) ^ (check >> 1) ^ 0x7F
+    complemented(information_remainder(&[a, b, c, d, e, f, g]) ^ (check >> 1))
 }
 
 // The parity of every polynomial that has this remainder by the generator, which has X + 1 as a factor.

@@ -14,23 +14,11 @@ use Rattle.randomizer.specs.Sequence.{sequence-octet, randomized-from}
 use Rattle.randomizer.proofs.Laws.{sequence-octet-lt}
 use Rattle.hold.specs.Candidates.{Candidate, Showing, Shows-apart, Matches, shown-from, free-space, open-codeblocks, Open-whole, Sound, after-add}
 use Rattle.derandomizing.specs.Derandomized.{derandomized, Matches-over}
-
--- the sequence added twice is gone
-twice : (x s : ℕ) → bitXor (bitXor x s) s ≡ x
-twice x s = xor-assoc x s s ∙ ap (bitXor x) (xor-self s) ∙ xor-zero-r x
+use Rattle.derandomizing.specs.Apart.{twice}
 
 module _ (below : Showing) where
   pub matches-over : Matches-over below
   matches-over off place x h = ap (below place) (twice x (sequence-octet place) ∙ sym (xor-zero-r x)) ∙ off place x h
-
-  pub shows-apart : Shows-apart below → Shows-apart (derandomized below)
-  shows-apart law =
-      record {
-        octets = λ place x h. law .octets place (bitXor x (sequence-octet place)) (xor-lt 8 x (sequence-octet place) h (sequence-octet-lt place));
-        apart = λ place x y hx hy e.
-            let s = sequence-octet place in
-            sym (twice x s) ∙ ap (λ z. bitXor z s) (law .apart place (bitXor x s) (bitXor y s) (xor-lt 8 x s hx (sequence-octet-lt place)) (xor-lt 8 y s hy (sequence-octet-lt place)) e) ∙ twice y s;
-      }
 
   shown-derandomized : (place : ℕ) (xs : List ℕ) → shown-from below place (randomized-from On place xs) ≡ shown-from (derandomized below) place xs
   shown-derandomized place [] = refl

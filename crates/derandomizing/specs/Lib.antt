@@ -1,1 +1,2 @@
 pub mod Derandomized
+pub mod Apart

@@ -5,6 +5,7 @@ ghost use Rattle.randomizer.specs.declared.Randomizer.the-variants.{On};
 ghost use Rattle.randomizer.specs.Sequence.{randomized-from};
 ghost use Rattle.hold.specs.Candidates.{open-codeblocks, add-answer, after-add};
 ghost use Rattle.derandomizing.specs.Derandomized.{derandomized, Matches-over};
+ghost use Rattle.derandomizing.specs.Apart.{shows-apart};
 use hold::Hold;
 use randomizer::sequence_octet;
 use refusals::Refusal;
@@ -69,6 +70,10 @@ pub impl<H: Hold> Hold for Derandomizing<H> as DerandomizingHold {
     ghost opened = { λ s. H·Hold .opened (s .below) };
 
     ghost showing = { derandomized (H·Hold .showing) };
+
+    ghost apart = { shows-apart (H·Hold .showing) (H·Hold .apart) };
+
+    ghost sound = { λ s. H·Hold .sound (s .below) };
 
     fn open(&mut self) -> Result<(), Refusal> {
         self.below.open()

@@ -3,6 +3,7 @@ ghost use mathlib.Core.Path.{_≡_};
 ghost use mathlib.Core.List.{List};
 ghost use Prim.Native.Nat.{ℕ, _≤_};
 ghost use lib.ListN.{length};
+ghost use denote.Ref.{now as value};
 ghost use Rattle.std.specs.declared.option.Option.{Option as Optional};
 ghost use Rattle.std.specs.declared.option.Option.the-variants.{None as absent};
 ghost use Rattle.std.specs.declared.result.Result.the-variants.{Ok};
@@ -25,9 +26,11 @@ pub trait Hold {
     /// As which octet an octet shows that is added at a place of a candidate.
     ghost showing: { Showing };
 
-    law apart: { Shows-apart showing };
+    /// The showing sends octets to octets, and no two of them to one.
+    ghost apart: { Shows-apart showing };
 
-    law sound: { (hold : Self) → Sound (capacity hold) (finished hold) (opened hold) };
+    /// What is held is whole candidates within the capacity.
+    ghost sound: { (hold : Self) → Sound (capacity hold) (finished hold) (opened hold) };
 
     /// Begins an empty candidate. Refused with 10 while one is open.
     fn open(&mut self) -> Result<(), Refusal>
@@ -93,6 +96,65 @@ pub trait Hold {
     fn read_oldest(&self, place: usize, memory: &mut [u8]) -> Result<(), Refusal>
         ensures answer { λ r. ⌜ r ≡ stretch-answer (finished (now (self .entry))) place (now (memory .entry)) ⌝ }
         ensures memory { λ _. ⌜ now (memory .exit) ≡ after-stretch (finished (now (self .entry))) place (now (memory .entry)) ⌝ };
+}
+
+/// A hold that is lent is a hold: a layer or a receiver may own it or borrow it.
+pub impl<'h, H: Hold> Hold for &'h mut H as LentHold {
+    ghost capacity = { λ lent. H·Hold .capacity (value lent) };
+
+    ghost finished = { λ lent. H·Hold .finished (value lent) };
+
+    ghost opened = { λ lent. H·Hold .opened (value lent) };
+
+    ghost showing = { H·Hold .showing };
+
+    ghost apart = { H·Hold .apart };
+
+    ghost sound = { λ lent. H·Hold .sound (value lent) };
+
+    fn open(&mut self) -> Result<(), Refusal> {
+        (**self).open()
+    }
+
+    fn add(&mut self, octets: [u8; 7]) -> Result<(), Refusal> {
+        (**self).add(octets)
+    }
+
+    fn finish(&mut self) -> Result<(), Refusal> {
+        (**self).finish()
+    }
+
+    fn abandon(&mut self) -> Result<(), Refusal> {
+        (**self).abandon()
+    }
+
+    fn release(&mut self) -> Result<(), Refusal> {
+        (**self).release()
+    }
+
+    fn free_space(&self) -> usize {
+        (**self).free_space()
+    }
+
+    fn open_codeblocks(&self) -> usize {
+        (**self).open_codeblocks()
+    }
+
+    fn finished_count(&self) -> usize {
+        (**self).finished_count()
+    }
+
+    fn oldest_length(&self) -> Result<usize, Refusal> {
+        (**self).oldest_length()
+    }
+
+    fn oldest_octet(&self, place: usize) -> Result<u8, Refusal> {
+        (**self).oldest_octet(place)
+    }
+
+    fn read_oldest(&self, place: usize, memory: &mut [u8]) -> Result<(), Refusal> {
+        (**self).read_oldest(place, memory)
+    }
 }
 
 // Copies the oldest finished candidate, which has so many octets, to the front of memory that is long enough.

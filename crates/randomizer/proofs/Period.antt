@@ -1,11 +1,11 @@
 -- The octets of the sequence repeat after 255, and one period of them, computed in one run. Assumes nothing.
 use mathlib.Core.Path.{_≡_, refl, sym, ap, _∙_, fun-ext}
-use mathlib.Core.List.{List, [], _∷_}
+use mathlib.Core.List.{List}
 use Prim.Native.Nat.{ℕ, zero, suc, _+_, _*_, _/_, _%_, _<_}
 use native.Mathlib.Nat.{zero-add, suc-add, le-of-suc-le-suc, not-suc-le-zero}
 use native.Mathlib.Omega.{arith}
 use lib.ListN.{getD}
-use Rattle.randomizer.specs.Sequence.{bit-after, octet-of, sequence-bit, sequence-octet}
+use Rattle.randomizer.specs.Sequence.{bit-after, octet-of, sequence-bit, sequence-octet, octets-after, first-octets}
 
 -- any eight bits in a row give all that come after them
 bit-after-add : (m n a b c d e f g h : ℕ) →
@@ -27,13 +27,6 @@ sequence-octet-repeats place =
     let there : place / 255 * 2040 + (8 * (place % 255) + i) ≡ 8 * place + i = omega arith in
     sym (sequence-bit-repeats (place / 255) (8 * (place % 255) + i)) ∙ ap sequence-bit there))
 
--- the next octets, in a sequence whose next eight bits are a to h: none is computed from the first bit anew
-abbrev octets-after : (count a b c d e f g h : ℕ) → List ℕ
-octets-after zero a b c d e f g h = []
-octets-after (suc count) a b c d e f g h =
-    let bit = bit-after a b c d e f g h in
-    octet-of bit ∷ octets-after count (bit 8) (bit 9) (bit 10) (bit 11) (bit 12) (bit 13) (bit 14) (bit 15)
-
 getD-octets-after : (count k a b c d e f g h : ℕ) → k < count →
     getD (octets-after count a b c d e f g h) k 0 ≡ octet-of (λ i. bit-after a b c d e f g h (8 * k + i))
 getD-octets-after zero k a b c d e f g h within = absurd (not-suc-le-zero within)
@@ -45,5 +38,7 @@ getD-octets-after (suc count) (suc k) a b c d e f g h within =
     let there : 8 + (8 * k + i) ≡ 8 * suc k + i = omega arith in
     sym (bit-after-add 8 (8 * k + i) a b c d e f g h) ∙ ap bit there))
 
-pub getD-one-period : (place : ℕ) → getD (octets-after 255 1 1 1 1 1 1 1 1) (place % 255) 0 ≡ sequence-octet place
-getD-one-period place = getD-octets-after 255 (place % 255) 1 1 1 1 1 1 1 1 (omega arith) ∙ sequence-octet-repeats place
+pub getD-one-period : (xs : List ℕ) (place k : ℕ) → xs ≡ first-octets 255 → place % 255 ≡ k → getD xs k 0 ≡ sequence-octet place
+getD-one-period xs place k one here =
+    ap (λ l. getD l k 0) one ∙ sym (ap (λ j. getD (first-octets 255) j 0) here)
+    ∙ getD-octets-after 255 (place % 255) 1 1 1 1 1 1 1 1 (omega arith) ∙ sequence-octet-repeats place

@@ -1,1 +1,2 @@
+-- What the randomizer's sequence is, and what adding it is. Assumes nothing.
 pub mod Sequence

@@ -29,6 +29,17 @@ octet-of bit = number 2 (bit 0 ∷ bit 1 ∷ bit 2 ∷ bit 3 ∷ bit 4 ∷ bit 5
 abbrev pub sequence-octet : ℕ → ℕ
 sequence-octet place = octet-of (λ i. sequence-bit (8 * place + i))
 
+-- the next octets, in a sequence whose next eight bits are a to h
+abbrev pub octets-after : (count a b c d e f g h : ℕ) → List ℕ
+octets-after zero a b c d e f g h = []
+octets-after (suc count) a b c d e f g h =
+    let bit = bit-after a b c d e f g h in
+    octet-of bit ∷ octets-after count (bit 8) (bit 9) (bit 10) (bit 11) (bit 12) (bit 13) (bit 14) (bit 15)
+
+-- the first octets of the sequence
+abbrev pub first-octets : ℕ → List ℕ
+first-octets count = octets-after count 1 1 1 1 1 1 1 1
+
 -- what is added, bit by bit modulo 2, to the octet at a place: the sequence, or nothing where the randomizer is off
 abbrev pub added-at : Randomizer → ℕ → ℕ
 added-at On place = sequence-octet place

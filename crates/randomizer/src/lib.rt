@@ -1,6 +1,7 @@
 //! The randomizer: a fixed sequence of bits that a sender adds to a filled frame before coding.
 ghost use mathlib.Core.Path.{_≡_};
-ghost use Rattle.randomizer.specs.Sequence.{sequence-bit, sequence-octet, added-at, Follows-the-rule, Randomizing-twice-gives-back};
+ghost use Prim.Native.Nat.{ℕ, _%_, _<_};
+ghost use Rattle.randomizer.specs.Sequence.{sequence-bit, sequence-octet, first-octets, added-at, Follows-the-rule, Randomizing-twice-gives-back};
 
 /// Whether a sender adds the sequence.
 #[derive(Clone, Copy, Debug, PartialEq, Eq)]
@@ -14,8 +15,7 @@ pub enum Randomizer {
 impl Randomizer {
     /// The octet that is added, bit by bit modulo 2, at this place of a frame: 0 where the randomizer is off.
     pub fn octet_at(self, place: usize) -> u8
-        ensures octet { λ r. ⌜ r ≡ added-at self place ⌝ }
-        ensures twice { λ _. ⌜ Randomizing-twice-gives-back ⌝ }
+        ensures { λ r. ⌜ r ≡ added-at self place ⌝ }
     {
         match self {
             Randomizer::On => sequence_octet(place),
@@ -42,10 +42,23 @@ const SEQUENCE: [u8; 255] = *b"\
     \x94\x0F\x7F\x9C\xCF\x2D\x34\x74\x83\x7A\xB6\x44\x97\xD0\x98\xAF\x04\
     \x60\x29\x54\x5D\xD7\x27\x61\x63\xF6\xB3\x6E\x1C\x6A\x7C\x43\x28\x1E";
 
-/// The octet of the sequence at a place, its first bit the most significant. The sequence has no end.
+// The octet at every place that stands here in its period, from a table of one period.
+fn period_octet(table: &[u8; 255], k: usize) -> u8
+    requires table { ⌜ now table ≡ first-octets 255 ⌝ }
+    requires place { ⌜ k < 255 ⌝ }
+    ensures octet { λ r. ⌜ ((place : ℕ) → place % 255 ≡ k → r ≡ sequence-octet place) ⌝ }
+    ensures rule { λ _. ⌜ Follows-the-rule sequence-bit ⌝ }
+    ensures twice { λ _. ⌜ Randomizing-twice-gives-back ⌝ }
+{
+    table[k]
+}
+
+/// The octet of the sequence at a place, its first bit the most significant. The sequence has no
+/// end, and who adds it twice has what was there before.
 pub fn sequence_octet(place: usize) -> u8
     ensures octet { λ r. ⌜ r ≡ sequence-octet place ⌝ }
     ensures rule { λ _. ⌜ Follows-the-rule sequence-bit ⌝ }
+    ensures twice { λ _. ⌜ Randomizing-twice-gives-back ⌝ }
 {
-    SEQUENCE[place % 255]
+    period_octet(&SEQUENCE, place % 255)
 }

@@ -1,1 +1,2 @@
+-- What the number of each refusal is. Assumes nothing.
 pub mod Numbers

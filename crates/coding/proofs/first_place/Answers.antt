@@ -1,11 +1,12 @@
+-- What `first_place` leaves to show: the turns of its loop over the degrees, and the laws of the place that it finds. Assumes nothing.
 use mathlib.Core.Path.{_≡_, refl, sym, ap, _∙_, subst}
-use Prim.Native.Nat.{ℕ, suc, _+_, _-_, _*_, _%_, _<_}
+use Prim.Native.Nat.{ℕ, suc, _-_, _*_, _%_, _<_}
 use native.Mathlib.Numerals.{add-one}
 use native.Mathlib.Omega.{arith}
 use Rattle.std.specs.declared.option.Option.{Option}
 use Rattle.std.specs.declared.option.Option.the-variants.{None, Some}
 use Rattle.bch.specs.Polynomial.{divided, remainder}
-use Rattle.bch.specs.Reception.{syndrome-polynomial, power-remainder, place-from, wrong-place}
+use Rattle.bch.specs.Reception.{syndrome-polynomial, place-from}
 use Rattle.bch.specs.Laws.{Is-the-wrong-place, Absent-only-at-zero}
 use Rattle.bch.proofs.Places.{place-here, place-later, is-the-wrong-place, absent-only-at-zero}
 use Rattle.coding.proofs.Received.{next-power, power-below}

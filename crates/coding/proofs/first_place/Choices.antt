@@ -1,3 +1,4 @@
+-- The loop of `first_place`: the power of X at the degree, and that the search from here on is the whole search. Assumes nothing.
 use mathlib.Core.Path.{_≡_}
 use Prim.Native.Nat.{_-_, _<_}
 use Rattle.bch.specs.Reception.{power-remainder, place-from}

@@ -1,3 +1,4 @@
+-- Seven octets one by one, and one more, are the list with it at the end. Assumes nothing.
 use mathlib.Core.Path.{_≡_, refl}
 use mathlib.Core.List.{[], _∷_, _++_}
 use borrow.Author.Needs.{needs}

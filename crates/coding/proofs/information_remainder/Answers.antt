@@ -1,3 +1,4 @@
+-- What `information_remainder` leaves to show: the turns of its loop over the octets. Assumes nothing.
 use mathlib.Core.Path.{sym, ap, _∙_, subst}
 use Prim.Native.Nat.{_*_, _^_, _<_}
 use native.Mathlib.Omega.{arith}

@@ -1,3 +1,4 @@
+-- The loop of `information_remainder`: the remainder of the octets so far. Assumes nothing.
 use mathlib.Core.Path.{_≡_}
 use Prim.Native.Nat.{_*_, _^_, _<_}
 use lib.ListN.{take}

@@ -1,4 +1,5 @@
-use mathlib.Core.Path.{_≡_, sym, ap, ap₂, _∙_, subst}
+-- The answer of `judge` is the verdict, and so has its laws. Assumes nothing.
+use mathlib.Core.Path.{_≡_, sym, subst}
 use borrow.Author.Needs.{needs}
 use Rattle.bch.specs.Reception.{verdict}
 use Rattle.bch.specs.Laws.{Undamaged-is-accepted, One-wrong-bit-is-corrected, Two-wrong-bits-are-rejected, One-or-three-wrong-bits-are-detected}

@@ -1,3 +1,4 @@
+-- The table holds the remainder of each octet. Assumes nothing.
 use borrow.Author.Needs.{needs}
 use Rattle.bch.specs.Polynomial.{divided}
 use Rattle.coding.proofs.Remainders.{octet-remainder}

@@ -1,3 +1,4 @@
+-- The parity of a polynomial is that of its remainder by the generator. Assumes nothing.
 use mathlib.Core.Path.{_∙_}
 use lib.Bits.{and-mask}
 use lib.Count.{ones}

@@ -1,3 +1,4 @@
+-- Seven coefficients reduced to six, by the case of the seventh. Assumes nothing.
 use mathlib.Core.Path.{_≡_, sym, ap, _∙_}
 use Prim.Native.Nat.{ℕ, _^_, _<_}
 use Rattle.bch.specs.Polynomial.{remainder}

@@ -17,5 +17,5 @@ returns g c =
     record {
       answer = copy-answered fs memory octets (c .pre .1) (c .pre .0);
       memory = ap (λ (l : List ℕ). l ++ drop (octets - 0) memory) (c .read-oldest .ensures .memory)
-        ∙ ap (λ (n : ℕ). after-stretch fs 0 (take n memory) ++ drop n memory) all ∙ copied fs memory octets (c .pre .1) (c .pre .0);
+          ∙ ap (λ (n : ℕ). after-stretch fs 0 (take n memory) ++ drop n memory) all ∙ copied fs memory octets (c .pre .1) (c .pre .0);
     }

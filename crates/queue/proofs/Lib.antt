@@ -1,0 +1,3 @@
+-- The lemmas that the proofs of this crate share. Assumes nothing.
+mod Rounds
+pub mod Places

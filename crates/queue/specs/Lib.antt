@@ -1,0 +1,3 @@
+-- What waits in a queue, and where. Assumes nothing.
+pub mod Waiting
+pub mod Places
