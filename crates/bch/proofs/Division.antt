@@ -1,28 +1,24 @@
 -- Laws of long division: it is additive, it leaves the remainder, and multiples of the divisor leave nothing. Assumes nothing.
 use mathlib.Core.Path.{_≡_, refl, sym, ap, ap₂, _∙_, subst}
 use mathlib.Core.List.{List, [], _∷_}
-use mathlib.Core.Logic.{_⊎_, inl, inr, ⊎-elim}
-use Prim.Native.Nat.{ℕ, zero, suc, _+_, _*_, _/_, _%_, _^_, _<_, _≤_}
-use native.Mathlib.Nat.{add-zero, add-suc, suc-add, zero-mul, one-mul, mul-zero}
+use mathlib.Core.Logic.{_⊎_, inl, inr}
+use Prim.Native.Nat.{ℕ, zero, suc, _+_, _*_, _/_, _^_, _<_, _≤_}
+use native.Mathlib.Nat.{add-zero, add-suc, suc-add, zero-mul, one-mul, mul-zero, mod-lt}
 use native.Mathlib.Omega.{arith}
 use native.Mathlib.Decide.{le-ind}
-use lib.Bits.{xor-assoc, xor-comm, xor-self, xor-zero-l, xor-zero-r, xor-lt}
+use lib.Bits.{xor-assoc, xor-comm, xor-self, xor-zero-r, xor-lt}
 use lib.ListN.{length}
 use lib.Pow.{pow-pos, pow-mono}
-use Rattle.bch.specs.Polynomial.{_⊕_, coefficient, divided, remainder, multiple, Remainder}
-use Rattle.bch.proofs.Sums.{added-twice, exchange, power-sum, bit, coefficient-sum, coefficient-times-sum, no-coefficient, coefficient-power, power-power, power-below, lower}
-
--- bits
-pub Bits : List ℕ → Type 0
-Bits [] = Unit {0}
-Bits (c ∷ cs) = ((c ≡ 0) ⊎ (c ≡ 1)) × Bits cs
+use Rattle.std.specs.shelf.Digits.{Under}
+use Rattle.bch.specs.Polynomial.{_⊕_, coefficient, divided, remainder, multiple, Division-leaves-the-remainder}
+use Rattle.bch.proofs.Sums.{added-twice, exchange, power-sum, bit, bit-cases, coefficient-sum, coefficient-times-sum, no-coefficient, coefficient-power, power-power, power-below, lower}
 
 -- what is additive, and nothing at each power of X times g, is nothing at each multiple of g
-pub vanishes-on-multiples : (F : ℕ → ℕ) → F 0 ≡ 0 → ((p q : ℕ) → F (p ⊕ q) ≡ F p ⊕ F q) → (g k : ℕ) → ((i : ℕ) → i < k → F (2 ^ i * g) ≡ 0) → (cs : List ℕ) → Bits cs → length cs ≤ k → F (multiple g cs) ≡ 0
-unfolding multiple Bits
+pub vanishes-on-multiples : (F : ℕ → ℕ) → F 0 ≡ 0 → ((p q : ℕ) → F (p ⊕ q) ≡ F p ⊕ F q) → (g k : ℕ) → ((i : ℕ) → i < k → F (2 ^ i * g) ≡ 0) → (cs : List ℕ) → Under 2 cs → length cs ≤ k → F (multiple g cs) ≡ 0
+unfolding multiple
 vanishes-on-multiples F none sum g k powers [] bs h = none
 vanishes-on-multiples F none sum g k powers (c ∷ cs) bs h =
-    sum (c * (2 ^ length cs * g)) (multiple g cs) ∙ ap₂ _⊕_ (first (bs .0)) (vanishes-on-multiples F none sum g k powers cs (bs .1) (omega arith))
+    sum (c * (2 ^ length cs * g)) (multiple g cs) ∙ ap₂ _⊕_ (first (bit-cases c (bs .0))) (vanishes-on-multiples F none sum g k powers cs (bs .1) (omega arith))
   where
     first : (c ≡ 0) ⊎ (c ≡ 1) → F (c * (2 ^ length cs * g)) ≡ 0
     first (inl e) = rw (e, zero-mul) none
@@ -53,15 +49,15 @@ module _ (g n : ℕ) where
   divided-zero m = divided-low m 0 (pow-pos n)
 
   -- p is what is left with a multiple of g added
-  pub quotient : (k p : ℕ) → (cs : List ℕ) × (length cs ≡ k) × Bits cs × (p ≡ multiple g cs ⊕ divided g n k p)
-  unfolding divided multiple Bits
+  pub quotient : (k p : ℕ) → (cs : List ℕ) × (length cs ≡ k) × Under 2 cs × (p ≡ multiple g cs ⊕ divided g n k p)
+  unfolding divided multiple
   quotient zero p = ([], refl, tt, refl)
   quotient (suc k) p =
       let c = coefficient (n + k) p in
       let rest = quotient k (p ⊕ c * (2 ^ k * g)) in (
         c ∷ rest .0,
         ap suc (rest .1),
-        (bit (p / 2 ^ (n + k)), rest .2),
+        (mod-lt (p / 2 ^ (n + k)) (omega arith), rest .2),
         sym (added-twice p (c * (2 ^ k * g))) ∙ xor-comm (p ⊕ c * (2 ^ k * g)) (c * (2 ^ k * g)) ∙ ap (λ x. c * (2 ^ k * g) ⊕ x) (rest .3)
             ∙ sym (xor-assoc (c * (2 ^ k * g)) (multiple g (rest .0)) (divided g n k (p ⊕ c * (2 ^ k * g))))
             ∙ ap (λ x. c * (2 ^ x * g) ⊕ multiple g (rest .0) ⊕ divided g n k (p ⊕ c * (2 ^ k * g))) (sym (rest .1)),
@@ -91,9 +87,6 @@ module _ (g n : ℕ) where
     divided-lower zero p h = subst (λ x. p < 2 ^ x) (add-zero n) h
     divided-lower (suc k) p h = divided-lower k (p ⊕ coefficient (n + k) p * (2 ^ k * g)) (one-step k p h)
 
-    pub remainder-is-the-remainder : (p : ℕ) → p < 2 ^ (n + 64) → Remainder g n p (remainder g n p)
-    remainder-is-the-remainder p h = let q = quotient 64 p in record { lower = divided-lower 64 p h; quotient = q .0; whole = q .3 }
-
     -- a power of X times the divisor leaves nothing
     pub power-leaves-nothing : (m j : ℕ) → j < m → divided g n m (2 ^ j * g) ≡ 0
     unfolding divided
@@ -103,7 +96,7 @@ module _ (g n : ℕ) where
         ∙ divided-zero j
 
     -- and so does a multiple, also times a power of X
-    pub multiple-leaves-nothing : (m j : ℕ) (cs : List ℕ) → Bits cs → j + length cs ≤ m → divided g n m (2 ^ j * multiple g cs) ≡ 0
+    pub multiple-leaves-nothing : (m j : ℕ) (cs : List ℕ) → Under 2 cs → j + length cs ≤ m → divided g n m (2 ^ j * multiple g cs) ≡ 0
     multiple-leaves-nothing m j cs bs h =
         vanishes-on-multiples (λ p. divided g n m (2 ^ j * p)) (ap (divided g n m) (mul-zero (2 ^ j)) ∙ divided-zero m)
         (λ p q. ap (divided g n m) (power-sum j p q) ∙ divided-sum m (2 ^ j * p) (2 ^ j * q)) g (length cs)
@@ -117,3 +110,16 @@ module _ (g n : ℕ) where
         ap (λ x. divided g n m (2 ^ j * x)) (q .3) ∙ ap (divided g n m) (power-sum j (multiple g (q .0)) r) ∙ divided-sum m (2 ^ j * multiple g (q .0)) (2 ^ j * r)
         ∙ ap (λ x. x ⊕ divided g n m (2 ^ j * r)) (multiple-leaves-nothing m j (q .0) (q .2) (omega (arith, q .1)))
         ∙ ap (λ x. divided g n m (2 ^ j * x)) (sym (divided-more k m p (omega arith) lt))
+
+pub division-leaves-the-remainder : Division-leaves-the-remainder
+division-leaves-the-remainder =
+    record {
+      leaves = λ g n p d h.
+          let q = quotient g n 64 p in
+          record { lower = divided-lower g n (d .0) (d .1) 64 p h; quotient = q .0; bits = q .2; few = omega (arith, q .1); whole = q .3 };
+      no-other = λ g n p r d is.
+          sym (ap (remainder g n) (is .whole) ∙ divided-sum g n 64 (multiple g (is .quotient)) r
+          ∙ ap₂ _⊕_
+          (ap (remainder g n) (sym (one-mul (multiple g (is .quotient)))) ∙ multiple-leaves-nothing g n (d .0) (d .1) 64 0 (is .quotient) (is .bits) (omega (arith, is .few)))
+          (divided-low g n 64 r (is .lower)));
+    }

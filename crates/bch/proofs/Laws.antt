@@ -1,9 +1,9 @@
 -- The laws of wrong bits, for the verdict on a word of 64 bits. Assumes nothing.
-use mathlib.Core.Path.{_≡_, refl, sym, ap, ap₂, _∙_, subst}
-use mathlib.Core.Bool.{Bool, true, false}
-use mathlib.Core.List.{List, [], _∷_, _++_}
-use mathlib.Core.Logic.{_⊎_, inl, inr, ⊎-elim, _≢_}
-use Prim.Native.Nat.{ℕ, zero, suc, _+_, _*_, _/_, _%_, _^_, _<_, _≤_}
+use mathlib.Core.Path.{_≡_, refl, sym, ap, ap₂, _∙_}
+use mathlib.Core.Bool.{true, false}
+use mathlib.Core.List.{List}
+use mathlib.Core.Logic.{⊎-elim, _≢_}
+use Prim.Native.Nat.{ℕ, zero, suc, _*_, _/_, _%_, _^_, _<_}
 use native.Mathlib.Nat.{pow-suc}
 use native.Mathlib.Omega.{arith}
 use lib.Bits.{xor-shr, xor-comm, xor-zero-r, xor-lt}
@@ -12,9 +12,8 @@ use Rattle.std.specs.shelf.Digits.{number}
 use Rattle.std.proofs.shelf.Digits.{number-push}
 use Rattle.bch.specs.declared.Mode.{Mode}
 use Rattle.bch.specs.declared.Mode.the-variants.{Detecting, Correcting}
-use Rattle.bch.specs.declared.Verdict.{Verdict}
 use Rattle.bch.specs.declared.Verdict.the-variants.{Accepted, Rejected}
-use Rattle.bch.specs.Polynomial.{_⊕_, weight, divided, remainder}
+use Rattle.bch.specs.Polynomial.{_⊕_, weight, remainder}
 use Rattle.bch.specs.Codeblock.{check-bits, Information, sent, information-of}
 use Rattle.bch.specs.Reception.{syndrome-polynomial, power-remainder, wrong-place, turned, corrected, judged, verdict, wrong-bits}
 use Rattle.bch.specs.Laws.{Undamaged-is-accepted, One-wrong-bit-is-corrected, Two-wrong-bits-are-rejected, One-or-three-wrong-bits-are-detected}

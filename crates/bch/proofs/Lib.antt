@@ -1,3 +1,4 @@
+-- Laws of polynomials modulo 2 and of the code. Assumes nothing.
 pub mod Sums
 pub mod Division
 pub mod Weights

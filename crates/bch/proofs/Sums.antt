@@ -2,9 +2,9 @@
 use mathlib.Core.Path.{_≡_, refl, sym, ap, ap₂, _∙_, subst}
 use mathlib.Core.Logic.{_⊎_, inl, inr, ⊎-elim}
 use Prim.Native.Nat.{ℕ, zero, suc, _+_, _*_, _/_, _%_, _^_, _<_, _≤_}
-use native.Mathlib.Nat.{add-zero, mul-comm, mul-assoc, zero-mul, one-mul, mul-zero, pow-suc, mod-lt, mod-mod, div-eq-of-lt, div-eq-of-lt-le, add-comm}
+use native.Mathlib.Nat.{add-zero, mul-comm, mul-assoc, zero-mul, one-mul, pow-suc, mod-lt, div-eq-of-lt, div-eq-of-lt-le, add-comm}
 use native.Mathlib.Omega.{arith}
-use lib.Bits.{bitXor, xor-assoc, xor-comm, xor-self, xor-zero-l, xor-zero-r, xor-block, xor-shr, xor-mod, xor-lt}
+use lib.Bits.{bitXor, xor-assoc, xor-comm, xor-self, xor-zero-l, xor-zero-r, xor-block, xor-shr, xor-mod}
 use lib.Pow.{pow-pos, pow-add, shl-shr, shr-shr, shl-lt}
 use Rattle.std.proofs.str.Laws.{order}
 use Rattle.bch.specs.Polynomial.{_⊕_, coefficient}
@@ -32,13 +32,13 @@ power-sum k p q =
 pub coefficient-sum : (d p q : ℕ) → coefficient d (p ⊕ q) ≡ coefficient d p ⊕ coefficient d q
 coefficient-sum d p q = ap (λ x. x % 2) (xor-shr p q d) ∙ xor-mod (p / 2 ^ d) (q / 2 ^ d) 1
 
+pub bit-cases : (m : ℕ) → m < 2 → (m ≡ 0) ⊎ (m ≡ 1)
+bit-cases zero h = inl refl
+bit-cases (suc zero) h = inr refl
+bit-cases (suc (suc m)) h = absurd (omega arith)
+
 pub bit : (n : ℕ) → (n % 2 ≡ 0) ⊎ (n % 2 ≡ 1)
-bit n = two (n % 2) (mod-lt n (omega arith))
-  where
-    two : (m : ℕ) → m < 2 → (m ≡ 0) ⊎ (m ≡ 1)
-    two zero h = inl refl
-    two (suc zero) h = inr refl
-    two (suc (suc m)) h = absurd (omega arith)
+bit n = bit-cases (n % 2) (mod-lt n (omega arith))
 
 -- a bit times a polynomial is the polynomial or nothing
 times-bit-sum : (b c p : ℕ) → (b ≡ 0) ⊎ (b ≡ 1) → (c ≡ 0) ⊎ (c ≡ 1) → (b ⊕ c) * p ≡ b * p ⊕ c * p

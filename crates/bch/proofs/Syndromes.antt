@@ -1,21 +1,19 @@
 -- Parity and number of a received word are those of its remainder by the generator, and those of its wrong bits alone. Assumes nothing.
 use mathlib.Core.Path.{_≡_, refl, sym, ap, ap₂, _∙_, subst}
-use mathlib.Core.List.{List, [], _∷_, _++_}
-use mathlib.Core.Logic.{_⊎_, inl, inr, ⊎-elim, _≢_}
-use Prim.Native.Nat.{ℕ, zero, suc, _+_, _*_, _/_, _%_, _^_, _<_, _≤_}
-use native.Mathlib.Nat.{mul-comm, mul-one, le-of-suc-le-suc}
+use mathlib.Core.List.{List}
+use Prim.Native.Nat.{ℕ, _+_, _*_, _/_, _%_, _^_, _<_}
+use native.Mathlib.Nat.{mul-comm}
 use native.Mathlib.Omega.{arith}
-use lib.Arith.{digits-div}
-use lib.Bits.{bitXor, xor-assoc, xor-comm, xor-self, xor-zero-l, xor-zero-r, xor-block, xor-shr, xor-shifted, xor-lt}
-use lib.ListN.{length, getD}
-use lib.Pow.{pow-pos, pow-add}
-use Rattle.std.specs.shelf.Digits.{number}
+use lib.Bits.{xor-comm, xor-self, xor-zero-r, xor-block, xor-shr, xor-shifted, xor-lt}
+use lib.ListN.{length}
+use lib.Pow.{pow-add}
+use Rattle.std.specs.shelf.Digits.{number, Under}
 use Rattle.std.proofs.shelf.Digits.{number-push, number-lt}
-use Rattle.bch.specs.Polynomial.{_⊕_, coefficient, weight, divided, remainder, multiple}
-use Rattle.bch.specs.Codeblock.{generator, complemented, check-bits, Information, codeblock, sent}
+use Rattle.bch.specs.Polynomial.{_⊕_, weight, divided, remainder, multiple}
+use Rattle.bch.specs.Codeblock.{generator, check-bits, Information, sent}
 use Rattle.bch.specs.Reception.{syndrome-polynomial, received}
 use Rattle.bch.proofs.Sums.{added-twice, exchange, power-sum, power-power}
-use Rattle.bch.proofs.Division.{Bits, vanishes-on-multiples, divided-sum, divided-zero, divided-low, divided-more, divided-lower, quotient, power-leaves-nothing}
+use Rattle.bch.proofs.Division.{vanishes-on-multiples, divided-sum, divided-zero, divided-low, divided-more, divided-lower, quotient, power-leaves-nothing}
 use Rattle.bch.proofs.Weights.{weight-zero, parity-sum, weight-power}
 
 -- the error pattern: the first 63 bits in which two words differ
@@ -56,7 +54,7 @@ generator-is-even i h =
 
 -- parity and number of a polynomial are those of its remainder by the generator
 module _ (p : ℕ) (small : p < 2 ^ 63) where
-  q : (cs : List ℕ) × (length cs ≡ 56) × Bits cs × (p ≡ multiple generator cs ⊕ divided generator 7 56 p)
+  q : (cs : List ℕ) × (length cs ≡ 56) × Under 2 cs × (p ≡ multiple generator cs ⊕ divided generator 7 56 p)
   q = quotient generator 7 56 p
 
   whole : p ≡ multiple generator (q .0) ⊕ remainder generator 7 p

@@ -1,14 +1,14 @@
 -- Laws of the weight of a polynomial, the number of its coefficients that are 1. Assumes nothing.
 use mathlib.Core.Path.{_≡_, refl, sym, ap, ap₂, _∙_, subst}
 use mathlib.Core.Logic.{_⊎_, inl, inr, ⊎-elim, _≢_}
-use Prim.Native.Nat.{ℕ, zero, suc, _+_, _*_, _/_, _%_, _^_, _<_, _≤_}
+use Prim.Native.Nat.{ℕ, zero, suc, _+_, _*_, _/_, _%_, _^_, _<_}
 use native.Mathlib.Nat.{zero-add, mul-comm, pow-suc, le-of-suc-le-suc}
 use native.Mathlib.Numerals.{add-one}
 use native.Mathlib.Omega.{arith}
 use lib.Arith.{lt-one}
-use lib.Bits.{bitXor, xor-shr, xor-mod, xor-shifted}
+use lib.Bits.{xor-shr, xor-mod, xor-shifted}
 use lib.Count.{ones, ones-step}
-use lib.Pow.{pow-pos, shr-lt}
+use lib.Pow.{shr-lt}
 use Rattle.bch.specs.Polynomial.{_⊕_, weight}
 use Rattle.bch.proofs.Sums.{bit, power-sum}
 

@@ -1,7 +1,7 @@
 -- A codeblock: 56 information bits, seven check bits and a filler bit 0. Bits are taken as numbers, the first bit the highest. Assumes nothing.
 use mathlib.Core.Path.{_≡_}
 use mathlib.Core.List.{List, [], _∷_, _++_}
-use Prim.Native.Nat.{ℕ, _*_, _/_, _%_, _^_, _<_}
+use Prim.Native.Nat.{ℕ, _*_, _/_, _%_, _^_}
 use lib.ListN.{length}
 use Rattle.std.specs.shelf.Digits.{number, Under}
 use Rattle.bch.specs.Polynomial.{_⊕_, remainder}

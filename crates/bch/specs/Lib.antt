@@ -1,3 +1,4 @@
+-- The telecommand code: read in this order. Assumes nothing.
 pub mod Polynomial
 pub mod Codeblock
 pub mod Reception

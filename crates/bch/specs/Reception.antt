@@ -1,10 +1,7 @@
 -- What is made of 64 received bits, and what the code promises of wrong bits. A word of 64 bits is a number, the first bit the highest.
 -- Assumes nothing.
-use mathlib.Core.Path.{_≡_}
-use mathlib.Core.Bool.{Bool, true, false, cond}
-use mathlib.Core.List.{List}
-use mathlib.Core.Logic.{_⊎_}
-use Prim.Native.Nat.{ℕ, zero, suc, _+_, _/_, _%_, _^_, _<_}
+use mathlib.Core.Bool.{true, false, cond}
+use Prim.Native.Nat.{ℕ, zero, suc, _+_, _/_, _%_, _^_}
 use lib.Dec.{eqb}
 use Rattle.std.specs.declared.option.Option.{Option}
 use Rattle.std.specs.declared.option.Option.the-variants.{None, Some}
@@ -13,7 +10,7 @@ use Rattle.bch.specs.declared.Mode.the-variants.{Detecting, Correcting}
 use Rattle.bch.specs.declared.Verdict.{Verdict}
 use Rattle.bch.specs.declared.Verdict.the-variants.{Accepted, Rejected}
 use Rattle.bch.specs.Polynomial.{_⊕_, weight, remainder}
-use Rattle.bch.specs.Codeblock.{complemented, Information, sent, information-of}
+use Rattle.bch.specs.Codeblock.{complemented, information-of}
 
 -- X^6 + X + 1
 abbrev pub syndrome-polynomial : ℕ

@@ -5,7 +5,7 @@
 /// How a receiver treats wrong bits.
 #[derive(Clone, Copy, Debug, PartialEq, Eq)]
 pub enum Mode {
-    /// Any codeblock with a syndrome is rejected.
+    /// A codeblock whose syndrome is not zero in both parts is rejected.
     Detecting,
     /// One wrong bit in a codeblock is turned.
     Correcting,

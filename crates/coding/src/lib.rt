@@ -4,7 +4,7 @@ ghost use mathlib.Core.Path.{_≡_};
 ghost use mathlib.Core.List.{_∷_, [], _++_};
 ghost use Prim.Native.Nat.{ℕ, _*_, _%_, _^_, _<_, _≤_};
 ghost use Rattle.std.specs.shelf.Digits.{number as number-of};
-ghost use Rattle.bch.specs.Polynomial.{weight, remainder as remainder-by};
+ghost use Rattle.bch.specs.Polynomial.{weight, remainder as remainder-by, Division-leaves-the-remainder};
 ghost use Rattle.bch.specs.Codeblock.{generator, complemented, check-bits, codeblock, information-of};
 ghost use Rattle.bch.specs.Reception.{syndrome-polynomial, received, syndrome, place-from, wrong-place, turned, judged, verdict};
 ghost use Rattle.bch.specs.Laws.{Is-the-wrong-place, Absent-only-at-zero, Undamaged-is-accepted, One-wrong-bit-is-corrected, Two-wrong-bits-are-rejected, One-or-three-wrong-bits-are-detected};
@@ -93,6 +93,7 @@ fn received_remainder(word: u64) -> u8
     ensures value { λ r. ⌜ r ≡ remainder-by generator 7 (received word) ⌝ }
     ensures bound { λ r. ⌜ r < 2 ^ 7 ⌝ }
     ensures degree { λ _. ⌜ received word < 2 ^ 63 ⌝ }
+    ensures division { λ _. ⌜ Division-leaves-the-remainder ⌝ }
 {
     let [a, b, c, d, e, f, g, check] = word.to_be_bytes();
     complemented(information_remainder(&[a, b, c, d, e, f, g]) ^ (check >> 1))
@@ -122,7 +123,8 @@ fn reduced(remainder: u8) -> u8
 /// The syndrome of the first 63 bits: their parity, with the check bits complemented, and their
 /// remainder by X^6 + X + 1 as a number below 64.
 pub fn syndrome(word: u64) -> (u8, u8)
-    ensures { λ r. ⌜ r ≡ syndrome word ⌝ }
+    ensures value { λ r. ⌜ r ≡ syndrome word ⌝ }
+    ensures division { λ _. ⌜ Division-leaves-the-remainder ⌝ }
 {
     let remainder = received_remainder(word);
     (parity(remainder), reduced(remainder))

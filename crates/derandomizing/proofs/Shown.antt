@@ -2,17 +2,16 @@
 use mathlib.Core.Path.{_≡_, refl, sym, ap, _∙_}
 use mathlib.Core.Bool.{cond}
 use mathlib.Core.List.{List, [], _∷_, _++_}
-use Prim.Native.Nat.{ℕ, suc, _+_, _*_, _/_, _%_, _<_, _≤_}
+use Prim.Native.Nat.{ℕ, suc, _*_, _/_}
 use native.Mathlib.Omega.{arith}
-use lib.Bits.{bitXor, xor-assoc, xor-self, xor-zero-r, xor-lt}
+use lib.Bits.{bitXor, xor-zero-r}
 use lib.Dec.{eqb}
 use lib.ListN.{length}
 use Rattle.std.specs.declared.option.Option.{Option}
 use Rattle.std.specs.declared.option.Option.the-variants.{Some, None}
-use Rattle.randomizer.specs.declared.Randomizer.the-variants.{On, Off}
+use Rattle.randomizer.specs.declared.Randomizer.the-variants.{On}
 use Rattle.randomizer.specs.Sequence.{sequence-octet, randomized-from}
-use Rattle.randomizer.proofs.Laws.{sequence-octet-lt}
-use Rattle.hold.specs.Candidates.{Candidate, Showing, Shows-apart, Matches, shown-from, free-space, open-codeblocks, Open-whole, Sound, after-add}
+use Rattle.hold.specs.Candidates.{Candidate, Showing, shown-from, free-space, open-codeblocks, Open-whole, after-add}
 use Rattle.derandomizing.specs.Derandomized.{derandomized, Matches-over}
 use Rattle.derandomizing.specs.Apart.{twice}
 

@@ -1,5 +1,4 @@
 -- The showing of a derandomizing layer, by the showing below it. Assumes nothing.
-use Prim.Native.Nat.{ℕ}
 use lib.Bits.{bitXor}
 use Rattle.randomizer.specs.declared.Randomizer.the-variants.{On, Off}
 use Rattle.randomizer.specs.Sequence.{sequence-octet}

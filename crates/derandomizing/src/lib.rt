@@ -16,13 +16,21 @@ pub struct Derandomizing<H> {
     below: H,
 }
 
+// The layer over a hold, with the law by which it matches a randomizing sender.
+fn layer<H: Hold>(below: H) -> Derandomizing<H>
+    ensures below { λ r. ⌜ r .below ≡ below ⌝ }
+    ensures matches { λ _. ⌜ Matches-over (H·Hold .showing) ⌝ }
+{
+    Derandomizing { below }
+}
+
 impl<H: Hold> Derandomizing<H> {
     /// The layer over a hold, in whatever state that is.
     pub fn over(below: H) -> Derandomizing<H>
         ensures below { λ r. ⌜ r .below ≡ below ⌝ }
         ensures matches { λ _. ⌜ Matches-over (H·Hold .showing) ⌝ }
     {
-        Derandomizing { below }
+        layer(below)
     }
 
     /// Ends the layer and gives back the hold below it.

@@ -1,1 +1,2 @@
+-- The lines that answer frames. Assumes nothing.
 pub mod Lines

@@ -1,7 +1,7 @@
 -- The line that answers a line of text with a frame in it. Assumes nothing.
 use mathlib.Core.Path.{_≡_}
-use mathlib.Core.Bool.{Bool, true, false, cond}
-use mathlib.Core.List.{List, [], _∷_, _++_}
+use mathlib.Core.Bool.{Bool, true, false}
+use mathlib.Core.List.{List, _++_}
 use Prim.Native.Nat.{ℕ}
 use lib.Chars.{codes}
 use lib.ListN.{length, replicate}
@@ -17,7 +17,7 @@ use Rattle.cltu.specs.declared.Sender.{Sender}
 use Rattle.cltu.specs.Cltu.{codeblocks-for, fill-for}
 use Rattle.cltu.specs.Writing.{sent-cltu, writing-answer}
 use Rattle.frame_lines.specs.declared.Answer.{Answer}
-use Rattle.hexadecimal.specs.Text.{octets-written, capital-digits}
+use Rattle.hexadecimal.specs.Text.{capital-digits}
 
 -- memory for the longest CLTU, that of 147 codeblocks
 abbrev pub longest : List ℕ

@@ -1,1 +1,2 @@
+-- The meaning of a hold. Assumes nothing.
 pub mod Candidates

@@ -1,8 +1,6 @@
 -- The worked examples, computed by the checker. Assumes nothing.
 use mathlib.Core.Path.{_≡_, refl, ap, _∙_}
-use mathlib.Core.List.{List}
 use Prim.Native.Nat.{ℕ, _+_, _*_}
-use lib.ListN.{length}
 use Rattle.bch.specs.declared.Mode.{Mode}
 use Rattle.bch.specs.declared.Mode.the-variants.{Detecting, Correcting}
 use Rattle.bch.specs.declared.Verdict.the-variants.{Rejected}

@@ -1,1 +1,2 @@
+-- The worked examples, computed. Assumes nothing.
 mod Computed

@@ -1,1 +1,2 @@
+-- The worked examples. Assumes nothing.
 pub mod Worked

@@ -1,10 +1,10 @@
 -- Worked examples of the definitions, to be checked against the standard by eye. Assumes nothing.
 use mathlib.Core.Path.{_≡_}
-use mathlib.Core.Bool.{true, false}
+use mathlib.Core.Bool.{true}
 use mathlib.Core.List.{List, [], _∷_, _++_}
 use Prim.Native.Nat.{ℕ}
 use lib.ListN.{length, replicate}
-use Rattle.std.specs.declared.option.Option.the-variants.{Some, None}
+use Rattle.std.specs.declared.option.Option.the-variants.{Some}
 use Rattle.std.specs.shelf.Digits.{number}
 use Rattle.bch.specs.declared.Mode.{Mode}
 use Rattle.bch.specs.declared.Mode.the-variants.{Detecting, Correcting}
@@ -15,7 +15,7 @@ use Rattle.randomizer.specs.declared.Randomizer.{Randomizer}
 use Rattle.randomizer.specs.Sequence.{sequence-octet}
 use Rattle.cltu.specs.Cltu.{tail-sequence, cltu}
 
--- a codeblock that repeats one octet seven times, and its last octet
+-- the codeblock of this information ends with this octet
 abbrev pub Ends : List ℕ → ℕ → Type 0
 Ends information last = codeblock information ≡ information ++ last ∷ []
 

@@ -1,3 +1,4 @@
+-- Fill stands past the end of a frame. Assumes nothing.
 use mathlib.Core.Path.{sym}
 use Rattle.std.proofs.shelf.Lists.{getD-default, getD-past}
 use Rattle.cltu.proofs.filled_octet.Needs as need

@@ -8,6 +8,7 @@ use lib.ListN.{getD}
 use Rattle.std.specs.shelf.Digits.{number}
 use Rattle.bch.specs.Polynomial.{_⊕_, remainder}
 use Rattle.bch.specs.Codeblock.{generator}
+use Rattle.bch.proofs.Division.{division-leaves-the-remainder}
 use Rattle.coding.proofs.Received.{received-remainder, received-below}
 use Rattle.coding.proofs.received_remainder.Needs as need
 
@@ -30,4 +31,5 @@ returns c =
           ∙ received-remainder word r (c .fits .word .fits) (c .information-remainder .ensures .value ∙ ap (λ xs. remainder generator 7 (2 ^ 7 * number 256 (first-seven xs))) octets);
       bound = c .complemented .ensures .bound;
       degree = received-below word (c .fits .word .fits);
+      division = division-leaves-the-remainder;
     }

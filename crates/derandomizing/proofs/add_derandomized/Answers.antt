@@ -1,11 +1,11 @@
 -- Adding below what the layer shows. Assumes nothing.
-use mathlib.Core.Path.{_≡_, ap, _∙_}
+use mathlib.Core.Path.{ap, _∙_}
 use mathlib.Core.List.{List}
-use Prim.Native.Nat.{ℕ, _*_, _≤_}
+use Prim.Native.Nat.{ℕ}
 use native.Mathlib.Omega.{arith}
 use Rattle.randomizer.specs.declared.Randomizer.the-variants.{On}
 use Rattle.randomizer.specs.Sequence.{randomized-from}
-use Rattle.hold.specs.Candidates.{open-codeblocks, after-add}
+use Rattle.hold.specs.Candidates.{after-add}
 use Rattle.derandomizing.proofs.Shown.{added-below}
 use Rattle.derandomizing.proofs.add_derandomized.Needs as need
 

@@ -1,6 +1,5 @@
-use mathlib.Core.Path.{_≡_, sym, _∙_}
-use mathlib.Core.Bool.{true}
-use lib.Dec.{eqb}
+-- The worked codeblocks end as they were worked out. Assumes nothing.
+use mathlib.Core.Path.{sym, _∙_}
 use Rattle.std.proofs.shelf.Tests.{eq-eqb, and-from}
 use Rattle.bch.specs.Polynomial.{divided}
 use Rattle.worked_examples.proofs.Computed.{worked-examples}

@@ -1,3 +1,4 @@
+-- The length of a CLTU. Assumes nothing.
 use mathlib.Core.Path.{sym, ap, _∙_}
 use Prim.Native.Nat.{_+_, _*_}
 use Rattle.cltu.proofs.Places.{length-cltu}

@@ -1,6 +1,7 @@
-use mathlib.Core.Path.{_≡_, _∙_}
+-- Seven octets of the filled and randomized frame. Assumes nothing.
+use mathlib.Core.Path.{_∙_}
 use mathlib.Core.List.{[], _∷_}
-use Prim.Native.Nat.{ℕ, _+_, _*_, _<_}
+use Prim.Native.Nat.{_+_}
 use native.Mathlib.Omega.{arith}
 use Rattle.randomizer.specs.Sequence.{randomized}
 use Rattle.cltu.specs.Cltu.{filled}

@@ -1,3 +1,4 @@
+-- Start, codeblocks and tail one behind the other are the CLTU. Assumes nothing.
 use Rattle.cltu.proofs.Places.{parts-are-the-cltu}
 use Rattle.cltu.proofs.Sender.put_cltu.Needs as need
 

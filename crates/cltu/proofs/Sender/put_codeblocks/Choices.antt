@@ -1,3 +1,4 @@
+-- The codeblocks that are put so far, and the rest of the memory as it was. Assumes nothing.
 use mathlib.Core.Path.{_≡_}
 use mathlib.Core.List.{_++_}
 use Prim.Native.Nat.{_+_, _*_}
