@@ -1,0 +1,5 @@
+-- The rules of reception, and what holds of every run of them. Assumes nothing.
+pub mod Reports
+pub mod Rules
+pub mod Runs
+pub mod Promise
