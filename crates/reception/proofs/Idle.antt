@@ -3,7 +3,7 @@ use mathlib.Core.Path.{_≡_, refl, sym, ap, ap₂, _∙_, subst}
 use mathlib.Core.Bool.{Bool, true, false, not}
 use mathlib.Core.List.{List, [], _∷_}
 use mathlib.Core.Logic.{_⊎_, inl, inr, ⊎-elim}
-use Prim.Native.Nat.{ℕ, zero, suc, pred, _+_, _*_, _%_, _^_, _≤_, _<_}
+use Prim.Native.Nat.{ℕ, zero, suc, pred, _+_, _*_, _-_, _≤_, _<_}
 use native.Mathlib.Omega.{arith}
 use lib.Dec.{eqb}
 use lib.Pow.{mod-mod-pow}
@@ -16,9 +16,9 @@ use Rattle.bch.specs.Polynomial.{weight, divided}
 use Rattle.bch.specs.Reception.{place-from, verdict}
 use Rattle.hold.specs.Candidates.{Showing}
 use Rattle.reception.specs.Rules.{Settings, Held, opening, added, bit-value, next-count, next-window, is-start, Decoded, goes-on, ends, closing, decoded-by, decoded, Phase, INACTIVE, SEARCH, DECODE, State, state, Event, carrier-up, carrier-down, symbol, release, at-window, at-codeblock, at-word, at-event, made}
-use Rattle.reception.specs.Runs.{after-events, symbols-in, Carrier-stays-up, Carrier-is-up, In-search, idle, recovery-bits}
+use Rattle.reception.specs.Runs.{after-events, symbols-in, Carrier-stays-up, Carrier-is-up, Nothing-but-idle, Clear, idle, recovery-bits}
 use Rattle.reception.specs.Promise.{Idle-brings-it-back}
-use Rattle.reception.proofs.Windows.{before, Ends-idle, no-start-after-four, no-exact-start-after-two, one-more-idle, still-idle, not-yet-full}
+use Rattle.reception.proofs.Windows.{Ends-idle, fewer, no-start-after-four, no-exact-start-after-two, one-more-idle, still-idle, not-yet-full}
 use Rattle.reception.proofs.Decoding.{Is-open, Goes-right, codeblock-goes-right}
 use Rattle.reception.proofs.Kept.{Kept, began, kept-from-making}
 
@@ -54,13 +54,10 @@ abbrev lasts : Mode → ℕ → ℕ
 lasts Correcting limit = 64 * (limit + 1)
 lasts Detecting limit = 64
 
--- the window is idle as far as it is filled, or four bits at least
-abbrev Calm : Bool → (count window : ℕ) → Type 0
-Calm b count window = ((count < 4) × Ends-idle count b window) ⊎ Ends-idle 4 b window
-
 -- j idle bits have entered a window that may hold anything before them
-abbrev Fresh : Mode → ℕ → Bool → (left window : ℕ) → Type 0
-Fresh mode limit b left window = (j : ℕ) × (j < 4) × Ends-idle j b window × (j < reach mode → reach mode + lasts mode limit ≤ left + j)
+abbrev Fresh : Mode → ℕ → Bool → (left count window : ℕ) → Type 0
+Fresh mode limit b left count window =
+    (j : ℕ) × (j < 16) × (j ≤ count) × Ends-idle j b window × (16 ≤ left + j) × (j < reach mode → reach mode + lasts mode limit ≤ left + j)
 
 -- a word that was begun before the idle, or one of idle bits alone
 abbrev Lasting : Mode → ℕ → Bool → ℕ → (count word held : ℕ) → Type 0
@@ -71,16 +68,12 @@ Lasting Detecting limit b left count word before =
 -- so many idle bits more, the next of them b, bring this state back to SEARCH
 abbrev Settling : Mode → ℕ → Bool → ℕ → Phase → Held → Type 0
 Settling mode limit b left INACTIVE h = ⊥
-Settling mode limit b left (SEARCH count window) h = (h .opened ≡ None) × (Calm b count window ⊎ Fresh mode limit b left window)
+Settling mode limit b left (SEARCH count window) h = (h .opened ≡ None) × (count ≤ 16) × (Nothing-but-idle b count window ⊎ Fresh mode limit b left count window)
 Settling mode limit b left (DECODE count word corrections) h =
     Is-open (h .opened) × (added h ≤ limit) × (count < 64) × Lasting mode limit b left count word (added h)
 
 abbrev Settles : Mode → ℕ → Bool → ℕ → State → Type 0
 Settles mode limit b left s = Settling mode limit b left (s .phase) (s .held)
-
--- the last bits of more are idle too
-fewer : (j k : ℕ) (b : Bool) (window : ℕ) → Ends-idle (j + k) b window → Ends-idle k b window
-fewer j k b window e = sym (mod-mod-pow window j k) ∙ ap (λ x. x % 2 ^ k) e ∙ mod-mod-pow (before b) j k
 
 module _ (settings : Settings) (showing : Showing) where
   abbrev M : Mode
@@ -89,26 +82,37 @@ module _ (settings : Settings) (showing : Showing) where
   abbrev L : ℕ
   L = settings .limit
 
-  -- a window that is calm stays so
-  calm-stays : (h : Held) (count window : ℕ) (b : Bool) (left : ℕ) → h .opened ≡ None → Calm b count window →
-      Settles M L (not b) left (at-event settings showing (state (SEARCH count window) h) (symbol b) .after)
-  calm-stays h count window b left none (inl (few, e)) =
-      subst (λ found. Settles M L (not b) left (at-window h (next-count count) (next-window window b) found .after))
-      (sym (not-yet-full M (next-count count) (next-window window b) (omega arith)))
-      (none, inl (⊎-elim (λ lt. inl (omega arith, subst (λ n. Ends-idle n (not b) (next-window window b)) filled more)) (λ ge. inr (subst (λ n. Ends-idle n (not b) (next-window window b)) (full ge) more)) (cases-lt (suc count) 4)))
+  -- a window with nothing but idle in it is no start
+  pub idle-is-no-start : (b : Bool) (count window : ℕ) → Nothing-but-idle b count window → is-start M count window ≡ false
+  idle-is-no-start b count window (few, e) =
+      ⊎-elim (λ lt. not-yet-full M count window lt)
+      (λ ge. no-start-after-four M b count window (fewer 12 4 b window (subst (λ n. Ends-idle n b window) (full ge) e)))
+      (cases-lt count 16)
     where
-      more : Ends-idle (suc count) (not b) (next-window window b)
-      more = one-more-idle count b window few e
-
-      filled : suc count ≡ next-count count
-      filled = omega arith
-
-      full : 4 ≤ suc count → suc count ≡ 4
+      full : 16 ≤ count → count ≡ 16
       full ge = omega arith
-  calm-stays h count window b left none (inr e) =
+
+  pub idle-goes-in : (b : Bool) (count window : ℕ) → Nothing-but-idle b count window → Nothing-but-idle (not b) (next-count count) (next-window window b)
+  idle-goes-in b count window (few, e) =
+      ⊎-elim (λ lt. (omega arith, subst (λ n. Ends-idle n (not b) (next-window window b)) (more lt) (one-more-idle count b window lt e)))
+      (λ ge. (omega arith, subst (λ n. Ends-idle n (not b) (next-window window b)) (full ge) (still-idle b window (subst (λ n. Ends-idle n b window) (sixteen ge) e))))
+      (cases-lt count 16)
+    where
+      more : count < 16 → suc count ≡ next-count count
+      more lt = omega arith
+
+      full : 16 ≤ count → 16 ≡ next-count count
+      full ge = omega arith
+
+      sixteen : 16 ≤ count → count ≡ 16
+      sixteen ge = omega arith
+
+  calm-stays : (h : Held) (count window : ℕ) (b : Bool) (left : ℕ) → h .opened ≡ None → Nothing-but-idle b count window →
+      Settles M L (not b) left (at-event settings showing (state (SEARCH count window) h) (symbol b) .after)
+  calm-stays h count window b left none calm =
+      let on = idle-goes-in b count window calm in
       subst (λ found. Settles M L (not b) left (at-window h (next-count count) (next-window window b) found .after))
-      (sym (no-start-after-four M (not b) (next-count count) (next-window window b) (still-idle b window e)))
-      (none, inl (inr (still-idle b window e)))
+      (sym (idle-is-no-start (not b) (next-count count) (next-window window b) on)) (none, on .0, inl on)
 
   -- a start that idle completes, at its first, second or third bit
   started : (mode : Mode) (h : Held) (count window : ℕ) (b : Bool) (left j : ℕ) → h .opened ≡ None → j < 3 → Ends-idle (suc j) (not b) (next-window window b) → (j < reach mode → reach mode + lasts mode L ≤ left + j) →
@@ -125,32 +129,41 @@ module _ (settings : Settings) (showing : Showing) where
       two-more : (j : ℕ) → suc (suc j) ≡ j + 2
       two-more j = omega arith
 
-  fresh-settles : (h : Held) (count window : ℕ) (b : Bool) (left : ℕ) → h .opened ≡ None → Fresh M L b left window → (found : Bool) → is-start M (next-count count) (next-window window b) ≡ found →
+  fresh-settles : (h : Held) (count window : ℕ) (b : Bool) (left : ℕ) → h .opened ≡ None → count ≤ 16 → Fresh M L b left count window → (found : Bool) → is-start M (next-count count) (next-window window b) ≡ found →
       Settles M L (not b) (pred left) (at-window h (next-count count) (next-window window b) found .after)
-  fresh-settles h count window b left none (j, few, e, budget) found is =
+  fresh-settles h count window b left none full (j, few, entered, e, sixteen, budget) found is =
       ⊎-elim (λ early. by found is early) (λ late. last late) (cases-lt j 3)
     where
       more : Ends-idle (suc j) (not b) (next-window window b)
       more = one-more-idle j b window few e
 
+      -- still fresh, or idle alone
+      searches-on : (j < reach M → reach M + lasts M L ≤ left + j) → Settles M L (not b) (pred left) (at-window h (next-count count) (next-window window b) false .after)
+      searches-on budget =
+          (none, omega arith, ⊎-elim
+          (λ lt. inr (suc j, lt, omega arith, more, omega arith, λ early. omega (arith, budget (omega arith))))
+          (λ ge. inl (omega arith, subst (λ n. Ends-idle n (not b) (next-window window b)) (all ge) more))
+          (cases-lt (suc j) 16))
+        where
+          all : 16 ≤ suc j → suc j ≡ next-count count
+          all ge = omega arith
+
       by : (found : Bool) → is-start M (next-count count) (next-window window b) ≡ found → j < 3 → Settles M L (not b) (pred left) (at-window h (next-count count) (next-window window b) found .after)
       by true is early = started M h count window b left j none early more budget is
-      by false is early = (none, inr (suc j, omega arith, more, λ lt. omega (arith, budget (omega arith))))
-
-      four : 3 ≤ j → suc j ≡ 4
-      four late = omega arith
+      by false is early = searches-on budget
 
       last : 3 ≤ j → Settles M L (not b) (pred left) (at-window h (next-count count) (next-window window b) found .after)
       last late =
-          let e₄ = subst (λ n. Ends-idle n (not b) (next-window window b)) (four late) more in
+          let there : j - 3 + 4 ≡ suc j = omega arith in
+          let e₄ = fewer (j - 3) 4 (not b) (next-window window b) (subst (λ n. Ends-idle n (not b) (next-window window b)) (sym there) more) in
           subst (λ f. Settles M L (not b) (pred left) (at-window h (next-count count) (next-window window b) f .after))
-          (sym (no-start-after-four M (not b) (next-count count) (next-window window b) e₄) ∙ is) (none, inl (inr e₄))
+          (sym (no-start-after-four M (not b) (next-count count) (next-window window b) e₄) ∙ is) (searches-on budget)
 
   -- a codeblock that goes on, or ends the candidate
   block-settles : (h : Held) (count word : ℕ) (b : Bool) (left : ℕ) → count ≡ 63 → added h ≤ L → (mode : Mode) → Lasting mode L b left count word (added h) → (d : Decoded) → Goes-right L (added h) d →
       (mode ≡ Detecting → (first : Bool) → word ≡ idle-value first count → b ≡ idle-bit first count → (g : Held) (k : ℕ) → d ≡ goes-on g k → ⊥) →
       Settles mode L (not b) (pred left) (at-codeblock d .after)
-  block-settles h count word b left at few mode lasting (ends g one) right pure = (right, inl (inl (omega arith, ends-none (not b))))
+  block-settles h count word b left at few mode lasting (ends g one) right pure = (right, omega arith, inl (omega arith, ends-none (not b)))
     where
       ends-none : (b : Bool) → Ends-idle 0 b 0
       ends-none true = refl
@@ -189,8 +202,8 @@ module _ (settings : Settings) (showing : Showing) where
 
   symbol-settles : (p : Phase) (h : Held) (b : Bool) (left : ℕ) → Settling M L b left p h → Settles M L (not b) (pred left) (at-event settings showing (state p h) (symbol b) .after)
   symbol-settles INACTIVE h b left s = s
-  symbol-settles (SEARCH count window) h b left (none, inl calm) = calm-stays h count window b (pred left) none calm
-  symbol-settles (SEARCH count window) h b left (none, inr fresh) = fresh-settles h count window b left none fresh (is-start M (next-count count) (next-window window b)) refl
+  symbol-settles (SEARCH count window) h b left (none, full, inl calm) = calm-stays h count window b (pred left) none calm
+  symbol-settles (SEARCH count window) h b left (none, full, inr fresh) = fresh-settles h count window b left none full fresh (is-start M (next-count count) (next-window window b)) refl
   symbol-settles (DECODE count word k) h b left s = word-settles h count word k b left s (eqb (suc count) 64) refl
 
   up-settles : (p : Phase) (h : Held) (b : Bool) (left : ℕ) → Settling M L b left p h → Settles M L b left (at-event settings showing (state p h) carrier-up .after)
@@ -204,9 +217,10 @@ module _ (settings : Settings) (showing : Showing) where
   release-settles (DECODE count word k) h b left s = s
 
   -- none wanted any more
-  settled : (mode : Mode) (p : Phase) (h : Held) (b : Bool) → Settling mode L b 0 p h → In-search p × (h .opened ≡ None)
+  settled : (mode : Mode) (p : Phase) (h : Held) (b : Bool) → Settling mode L b 0 p h → Clear p h
   settled mode INACTIVE h b s = absurd s
-  settled mode (SEARCH count window) h b s = (tt, s .0)
+  settled mode (SEARCH count window) h b (none, full, inl calm) = (none, (b, calm))
+  settled mode (SEARCH count window) h b (none, full, inr fresh) = absurd (omega (arith, fresh .1, fresh .4))
   settled Correcting (DECODE count word k) h b s = absurd (omega (arith, s .1, s .2, s .3))
   settled Detecting (DECODE count word k) h b s = absurd (⊎-elim (λ mixed. omega (arith, s .2, mixed)) (λ pure. omega (arith, s .2, pure .3)) (s .3))
 
@@ -214,7 +228,7 @@ module _ (settings : Settings) (showing : Showing) where
   same-first x b xs ys e = (cc, cc)
 
   settles-at-last : (es : List Event) (s : State) (b : Bool) (bits left : ℕ) → Carrier-stays-up es → symbols-in es ≡ idle b bits → left ≤ bits → Settles M L b left s →
-      In-search (after-events settings showing s es .phase) × (after-events settings showing s es .held .opened ≡ None)
+      Clear (after-events settings showing s es .phase) (after-events settings showing s es .held)
   settles-at-last [] s b zero left up e few st = settled M (s .phase) (s .held) b (subst (λ n. Settles M L b n s) (none few) st)
     where
       none : left ≤ 0 → left ≡ 0
@@ -231,12 +245,12 @@ module _ (settings : Settings) (showing : Showing) where
 
   begins-to-settle : (mode : Mode) (p : Phase) (h : Held) (b : Bool) → Carrier-is-up p → Kept L p h → Settling mode L b (recovery-bits mode L) p h
   begins-to-settle mode INACTIVE h b up kept = absurd up
-  begins-to-settle Correcting (SEARCH count window) h b up kept = (kept, inr (0, omega arith, nothing-yet b window, λ lt. omega arith))
+  begins-to-settle Correcting (SEARCH count window) h b up kept = (kept .0, kept .1, inr (0, omega arith, omega arith, nothing-yet b window, omega arith, λ lt. omega arith))
     where
       nothing-yet : (b : Bool) (window : ℕ) → Ends-idle 0 b window
       nothing-yet true window = omega arith
       nothing-yet false window = omega arith
-  begins-to-settle Detecting (SEARCH count window) h b up kept = (kept, inr (0, omega arith, nothing-yet b window, λ lt. omega arith))
+  begins-to-settle Detecting (SEARCH count window) h b up kept = (kept .0, kept .1, inr (0, omega arith, omega arith, nothing-yet b window, omega arith, λ lt. omega arith))
     where
       nothing-yet : (b : Bool) (window : ℕ) → Ends-idle 0 b window
       nothing-yet true window = omega arith

@@ -17,7 +17,7 @@ use Rattle.reception.proofs.Decoding.{Is-open, Goes-right, codeblock-goes-righ
 -- a candidate is open just in DECODE, and then it is within the limit
 abbrev pub Kept : ℕ → Phase → Held → Type 0
 Kept limit INACTIVE h = h .opened ≡ None
-Kept limit (SEARCH count window) h = h .opened ≡ None
+Kept limit (SEARCH count window) h = (h .opened ≡ None) × (count ≤ 16)
 Kept limit (DECODE count word corrections) h = Is-open (h .opened) × (added h ≤ limit) × (count < 64) × (count ≡ 0 → word ≡ 0)
 
 abbrev pub Kept-state : ℕ → State → Type 0
@@ -36,7 +36,7 @@ module _ (settings : Settings) (showing : Showing) where
 
   -- a codeblock
   codeblock-keeps : (h : Held) (d : Decoded) → Goes-right L (added h) d → Kept-state L (at-codeblock d .after)
-  codeblock-keeps h (ends g one) right = right
+  codeblock-keeps h (ends g one) right = (right, omega arith)
   codeblock-keeps h (goes-on g k) right = (right .0, omega (arith, right .1, right .2), omega arith, λ z. refl)
 
   word-keeps : (h : Held) (count word k : ℕ) → Kept L (DECODE count word k) h → (b whole : Bool) → eqb (suc count) 64 ≡ whole →
@@ -47,23 +47,23 @@ module _ (settings : Settings) (showing : Showing) where
       below : (suc count ≡ 64 → ⊥) → count < 64 → suc count < 64
       below ne lt = ⊎-elim (λ l. l) (λ ge. absurd (ne (omega arith))) (cases-lt (suc count) 64)
 
-  window-keeps : (h : Held) (count window : ℕ) (found : Bool) → h .opened ≡ None → Kept-state L (at-window h count window found .after)
-  window-keeps h count window true e = begins h e
-  window-keeps h count window false e = e
+  window-keeps : (h : Held) (count window : ℕ) (found : Bool) → h .opened ≡ None → count ≤ 16 → Kept-state L (at-window h count window found .after)
+  window-keeps h count window true e few = begins h e
+  window-keeps h count window false e few = (e, few)
 
   symbol-keeps : (p : Phase) (h : Held) (b : Bool) → Kept L p h → Kept-state L (at-event settings showing (state p h) (symbol b) .after)
   symbol-keeps INACTIVE h b kept = kept
-  symbol-keeps (SEARCH count window) h b kept = window-keeps h (next-count count) (next-window window b) (is-start (settings .mode) (next-count count) (next-window window b)) kept
+  symbol-keeps (SEARCH count window) h b kept = window-keeps h (next-count count) (next-window window b) (is-start (settings .mode) (next-count count) (next-window window b)) (kept .0) (omega arith)
   symbol-keeps (DECODE count word k) h b kept = word-keeps h count word k kept b (eqb (suc count) 64) refl
 
   up-keeps : (p : Phase) (h : Held) → Kept L p h → Kept-state L (at-event settings showing (state p h) carrier-up .after)
-  up-keeps INACTIVE h kept = kept
+  up-keeps INACTIVE h kept = (kept, omega arith)
   up-keeps (SEARCH count window) h kept = kept
   up-keeps (DECODE count word k) h kept = kept
 
   down-keeps : (p : Phase) (h : Held) → Kept L p h → Kept-state L (at-event settings showing (state p h) carrier-down .after)
   down-keeps INACTIVE h kept = kept
-  down-keeps (SEARCH count window) h kept = kept
+  down-keeps (SEARCH count window) h kept = kept .0
   down-keeps (DECODE count word k) h kept = refl
 
   release-keeps : (p : Phase) (h : Held) → Kept L p h → Kept-state L (at-event settings showing (state p h) release .after)

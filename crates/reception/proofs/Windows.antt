@@ -1,27 +1,28 @@
 -- Idle in the search window: which windows idle can make, and that the start sequence is not among them. Assumes nothing.
-use mathlib.Core.Path.{_≡_, refl, sym, ap, _∙_}
+use mathlib.Core.Path.{_≡_, refl, sym, ap, ap₂, _∙_}
 use mathlib.Core.Bool.{Bool, true, false, not}
 use mathlib.Core.Logic.{_⊎_, inl, inr}
-use Prim.Native.Nat.{ℕ, zero, suc, _+_, _/_, _%_, _^_, _≤_, _<_}
+use Prim.Native.Nat.{ℕ, suc, _+_, _-_, _*_, _/_, _%_, _^_, _≤_, _<_}
+use native.Mathlib.Numerals.{add-one}
 use native.Mathlib.Omega.{arith}
 use lib.Bits.{bitXor, xor-mod, xor-zero-r}
 use lib.Dec.{eqb}
-use lib.Pow.{mod-mod-pow}
+use lib.Pow.{mod-mod-pow, mod-pow-add}
 use Rattle.std.proofs.shelf.Bits.{field-of}
 use Rattle.std.proofs.shelf.Tests.{and-left, and-right, lt-leb, ne-eqb}
 use Rattle.bch.specs.declared.Mode.{Mode}
 use Rattle.bch.specs.declared.Mode.the-variants.{Detecting, Correcting}
 use Rattle.bch.specs.Polynomial.{_⊕_, weight}
-use Rattle.reception.specs.Rules.{next-window, start-tolerance, is-start}
-
--- the last bits of idle whose next bit is this one: 1010 before a one, 0101 before a zero
-abbrev pub before : Bool → ℕ
-before true = 10
-before false = 5
+use Rattle.reception.specs.Runs.{idle-before}
+use Rattle.reception.specs.Rules.{bit-value, next-window, start-tolerance, is-start}
 
 -- the last bits of the window, as many as j, are idle that goes on with b
 abbrev pub Ends-idle : (j : ℕ) → Bool → ℕ → Type 0
-Ends-idle j b window = window % 2 ^ j ≡ before b % 2 ^ j
+Ends-idle j b window = window % 2 ^ j ≡ idle-before b % 2 ^ j
+
+-- then so are fewer of them
+pub fewer : (j k : ℕ) (b : Bool) (window : ℕ) → Ends-idle (j + k) b window → Ends-idle k b window
+fewer j k b window e = sym (mod-mod-pow window j k) ∙ ap (λ x. x % 2 ^ k) e ∙ mod-mod-pow (idle-before b) j k
 
 -- the last bits of half of a number, and fewer of its last bits
 halved : (x j r : ℕ) → x % 2 ^ (j + 1) ≡ r → x / 2 % 2 ^ j ≡ r / 2
@@ -58,7 +59,7 @@ pub no-start-after-four : (mode : Mode) (b : Bool) (count window : ℕ) → Ends
 no-start-after-four mode b count window e =
     and-right (eqb count 16) _ (lt-leb (weight 16 (window ⊕ 0xEB90)) (start-tolerance mode) (by mode b (low-bits 4 window refl ∙ e)))
   where
-    by : (mode : Mode) (b : Bool) → (window ⊕ 0xEB90) % 2 ^ 4 ≡ before b % 2 ^ 4 → start-tolerance mode < weight 16 (window ⊕ 0xEB90)
+    by : (mode : Mode) (b : Bool) → (window ⊕ 0xEB90) % 2 ^ 4 ≡ idle-before b % 2 ^ 4 → start-tolerance mode < weight 16 (window ⊕ 0xEB90)
     by Correcting true e = far-from-start (window ⊕ 0xEB90) 10 e (inr refl)
     by Correcting false e = far-from-start (window ⊕ 0xEB90) 5 e (inl refl)
     by Detecting true e = omega (arith, far-from-start (window ⊕ 0xEB90) 10 e (inr refl))
@@ -68,25 +69,35 @@ pub no-exact-start-after-two : (b : Bool) (count window : ℕ) → Ends-idle 2 b
 no-exact-start-after-two b count window e =
     and-right (eqb count 16) _ (lt-leb (weight 16 (window ⊕ 0xEB90)) 0 (by b (low-bits 2 window refl ∙ e)))
   where
-    by : (b : Bool) → (window ⊕ 0xEB90) % 2 ^ 2 ≡ before b % 2 ^ 2 → 0 < weight 16 (window ⊕ 0xEB90)
+    by : (b : Bool) → (window ⊕ 0xEB90) % 2 ^ 2 ≡ idle-before b % 2 ^ 2 → 0 < weight 16 (window ⊕ 0xEB90)
     by true e = off-start (window ⊕ 0xEB90) 2 e (inr refl)
     by false e = off-start (window ⊕ 0xEB90) 1 e (inl refl)
 
 -- idle goes on: one more of the window's last bits is idle
-pub one-more-idle : (j : ℕ) (b : Bool) (window : ℕ) → j < 4 → Ends-idle j b window → Ends-idle (suc j) (not b) (next-window window b)
-one-more-idle zero true window h e = omega arith
-one-more-idle zero false window h e = omega arith
-one-more-idle (suc zero) true window h e = omega arith
-one-more-idle (suc zero) false window h e = omega arith
-one-more-idle (suc (suc zero)) true window h e = omega arith
-one-more-idle (suc (suc zero)) false window h e = omega arith
-one-more-idle (suc (suc (suc zero))) true window h e = omega arith
-one-more-idle (suc (suc (suc zero))) false window h e = omega arith
-one-more-idle (suc (suc (suc (suc j)))) b window h e = absurd (omega arith)
+pushed : (j x c : ℕ) → c < 2 → (2 * x + c) % 2 ^ suc j ≡ x % 2 ^ j * 2 + c
+pushed j x c h =
+    let half : (2 * x + c) / 2 ≡ x = omega arith in
+    let low : (2 * x + c) % 2 ≡ c = omega arith in
+    ap (λ n. (2 * x + c) % 2 ^ n) (sym (add-one j)) ∙ mod-pow-add (2 * x + c) j 1 ∙ ap₂ (λ (y z : ℕ). y % 2 ^ j * 2 + z) half low
 
-pub still-idle : (b : Bool) (window : ℕ) → Ends-idle 4 b window → Ends-idle 4 (not b) (next-window window b)
-still-idle true window e = omega arith
-still-idle false window e = omega arith
+cut : (j x : ℕ) → j < 16 → x % 2 ^ 16 % 2 ^ suc j ≡ x % 2 ^ suc j
+cut j x h = let whole : 15 - j + suc j ≡ 16 = omega arith in ap (λ n. x % 2 ^ n % 2 ^ suc j) (sym whole) ∙ mod-mod-pow x (15 - j) (suc j)
+
+bit-below : (b : Bool) → bit-value b < 2
+bit-below true = omega arith
+bit-below false = omega arith
+
+turns : (b : Bool) → (2 * idle-before b + bit-value b) % 2 ^ 16 ≡ idle-before (not b)
+turns true = refl
+turns false = refl
+
+pub one-more-idle : (j : ℕ) (b : Bool) (window : ℕ) → j < 16 → Ends-idle j b window → Ends-idle (suc j) (not b) (next-window window b)
+one-more-idle j b window h e =
+    cut j (2 * window + bit-value b) h ∙ pushed j window (bit-value b) (bit-below b) ∙ ap (λ x. x * 2 + bit-value b) e
+    ∙ sym (ap (λ x. x % 2 ^ suc j) (sym (turns b)) ∙ cut j (2 * idle-before b + bit-value b) h ∙ pushed j (idle-before b) (bit-value b) (bit-below b))
+
+pub still-idle : (b : Bool) (window : ℕ) → Ends-idle 16 b window → Ends-idle 16 (not b) (next-window window b)
+still-idle b window e = one-more-idle 15 b window (omega arith) (fewer 1 15 b window e)
 
 -- a window that is not full is no start
 pub not-yet-full : (mode : Mode) (count window : ℕ) → count < 16 → is-start mode count window ≡ false

@@ -11,7 +11,7 @@ use Rattle.reception.specs.declared.Reason.{Reason}
 use Rattle.reception.specs.declared.Reason.the-variants.{Closed, Empty, Long, Full, Down}
 use Rattle.reception.specs.declared.Report.{Report}
 use Rattle.reception.specs.Rules.{Settings, Held, State, Event, carrier-up, carrier-down, symbol, release, at-event, made}
-use Rattle.reception.specs.Runs.{after-events, symbols-in, Carrier-stays-up, Carrier-is-up, In-search, idle, recovery-bits}
+use Rattle.reception.specs.Runs.{after-events, symbols-in, Carrier-stays-up, Carrier-is-up, Clear, idle, recovery-bits}
 
 -- a candidate that is announced: the one that was open when *closed* was reported
 abbrev pub announced-by : Option Candidate → Reason → List Candidate
@@ -58,7 +58,7 @@ module _ (settings : Settings) (showing : Showing) where
       let then = after-events settings showing (made hold) earlier in
       let back = after-events settings showing then later in
       Carrier-is-up (then .phase) → Carrier-stays-up later → symbols-in later ≡ idle first bits → recovery-bits (settings .mode) (settings .limit) ≤ bits →
-      In-search (back .phase) × (back .held .opened ≡ None)
+      Clear (back .phase) (back .held)
 
 pub record Promise (settings : Settings) (showing : Showing) : Type 0 where
   pub stays : What-is-finished-stays settings showing

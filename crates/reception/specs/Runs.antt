@@ -1,12 +1,14 @@
 -- Runs of the rules over lists of events, and the words in which the promise speaks of them. Assumes nothing.
-use mathlib.Core.Bool.{Bool, not}
+use mathlib.Core.Path.{_≡_}
+use mathlib.Core.Bool.{Bool, true, false, not}
 use mathlib.Core.List.{List, [], _∷_, _++_}
-use Prim.Native.Nat.{ℕ, zero, suc, _+_, _*_}
+use Prim.Native.Nat.{ℕ, zero, suc, _+_, _*_, _%_, _^_, _≤_}
+use Rattle.std.specs.declared.option.Option.the-variants.{None}
 use Rattle.bch.specs.declared.Mode.{Mode}
 use Rattle.bch.specs.declared.Mode.the-variants.{Detecting, Correcting}
 use Rattle.hold.specs.Candidates.{Showing}
 use Rattle.reception.specs.declared.Report.{Report}
-use Rattle.reception.specs.Rules.{Settings, State, Event, carrier-up, carrier-down, symbol, release, Phase, INACTIVE, SEARCH, DECODE, at-event}
+use Rattle.reception.specs.Rules.{Settings, Held, State, Event, carrier-up, carrier-down, symbol, release, Phase, INACTIVE, SEARCH, DECODE, at-event}
 
 module _ (settings : Settings) (showing : Showing) where
   -- the state after a list of events, and the reports that it makes, in order
@@ -43,11 +45,20 @@ abbrev pub recovery-bits : Mode → (limit : ℕ) → ℕ
 recovery-bits Correcting limit = 64 * limit + 67
 recovery-bits Detecting limit = 127
 
--- in SEARCH
-abbrev pub In-search : Phase → Type 0
-In-search INACTIVE = ⊥
-In-search (SEARCH count window) = Unit {0}
-In-search (DECODE count word corrections) = ⊥
+-- sixteen idle bits before this one
+abbrev pub idle-before : Bool → ℕ
+idle-before true = 0xAAAA
+idle-before false = 0x5555
+
+-- in the window nothing but idle, which may go on with the bit `next`, or nothing at all
+abbrev pub Nothing-but-idle : (next : Bool) (count window : ℕ) → Type 0
+Nothing-but-idle next count window = (count ≤ 16) × (window % 2 ^ count ≡ idle-before next % 2 ^ count)
+
+-- in SEARCH with no candidate open, and nothing but idle in the window
+abbrev pub Clear : Phase → Held → Type 0
+Clear INACTIVE h = ⊥
+Clear (SEARCH count window) h = (h .opened ≡ None) × ((next : Bool) × Nothing-but-idle next count window)
+Clear (DECODE count word corrections) h = ⊥
 
 abbrev pub Carrier-is-up : Phase → Type 0
 Carrier-is-up INACTIVE = ⊥
