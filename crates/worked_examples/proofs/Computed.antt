@@ -1,4 +1,5 @@
 -- The worked examples, computed by the checker. Assumes nothing.
+use mathlib.Core.Bool.{false}
 use mathlib.Core.Path.{_≡_, refl, ap, _∙_}
 use Prim.Native.Nat.{ℕ, _+_, _*_}
 use Rattle.bch.specs.declared.Mode.{Mode}
@@ -9,7 +10,7 @@ use Rattle.bch.specs.Polynomial.{weight, divided}
 use Rattle.bch.specs.Reception.{place-from, verdict}
 use Rattle.cltu.specs.Cltu.{codeblocks-for, tail-sequence}
 use Rattle.cltu.proofs.Places.{length-cltu}
-use Rattle.worked_examples.specs.Worked.{idle-from-zero, Cltu-octets, Worked-examples}
+use Rattle.worked_examples.specs.Worked.{starts, idle-from-zero, Cltu-octets, Worked-examples}
 
 tail-rejected : (mode : Mode) → verdict mode (number 256 tail-sequence) ≡ Rejected
 unfolding divided weight place-from
@@ -20,6 +21,11 @@ idle-from-zero-rejected : (mode : Mode) → verdict mode idle-from-zero ≡ Reje
 unfolding divided weight place-from
 idle-from-zero-rejected Detecting = refl
 idle-from-zero-rejected Correcting = refl
+
+two-wrong-bits : (mode : Mode) → starts mode 0xEB93 ≡ false
+unfolding weight
+two-wrong-bits Detecting = refl
+two-wrong-bits Correcting = refl
 
 octets : (n : ℕ) → Cltu-octets n (10 + 8 * codeblocks-for n)
 octets n r frame e = length-cltu r frame ∙ ap (λ k. 10 + 8 * codeblocks-for k) e
@@ -45,4 +51,9 @@ worked-examples =
       cltu-of-7 = octets 7;
       cltu-of-8 = octets 8;
       cltu-of-1024 = octets 1024;
+      start-with-a-wrong-bit = refl;
+      start-with-a-wrong-bit-detected = refl;
+      start-with-two-wrong-bits = two-wrong-bits;
+      still-decoding-at-idle-bit-130 = tt;
+      back-at-idle-bit-131 = refl;
     }
