@@ -12,6 +12,7 @@ use refusals::Refusal;
 
 /// A hold that keeps candidates of a randomizing sender as they were before the sender randomized
 /// them. It stands over any hold and owns it.
+#[derive(Drop)]
 pub struct Derandomizing<H> {
     below: H,
 }

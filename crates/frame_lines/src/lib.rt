@@ -91,3 +91,39 @@ pub fn answer_line(heap: Global, sender: Sender, line: &[u8]) -> Result<Answer, 
         }
     }
 }
+
+#[cfg(test)]
+mod tests {
+    use super::*;
+    use cltu::CodeblockLimit;
+    use randomizer::Randomizer;
+    use std::test::*;
+
+    fn sender(limit: usize, randomizer: Randomizer) -> Option<Sender> {
+        match CodeblockLimit::new(limit) {
+            Ok(limit) => Some(Sender { limit, randomizer }),
+            Err(_) => None,
+        }
+    }
+
+    #[test]
+    fn randomizer_and_limit(rt: LibcRuntime) -> Result<(), Fail> {
+        let heap = rt.alloc();
+        let Some(random) = sender(147, Randomizer::On) else {
+            return check(false);
+        };
+        let answer = answer_line(heap, random, b"00")?;
+        check(answer.is_cltu)?;
+        check_eq(
+            answer.text.as_str(),
+            "cltu 1 6 18 EB90FF6CCB0F3DBC5330C5C5C5C5C5C5C579",
+        )?;
+        let Some(small) = sender(1, Randomizer::Off) else {
+            return check(false);
+        };
+        check_eq(
+            answer_line(heap, small, b"0102030405060708")?.text.as_str(),
+            "refused 1",
+        )
+    }
+}

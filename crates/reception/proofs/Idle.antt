@@ -139,11 +139,14 @@ module _ (settings : Settings) (showing : Showing) where
 
       -- still fresh, or idle alone
       searches-on : (j < reach M → reach M + lasts M L ≤ left + j) → Settles M L (not b) (pred left) (at-window h (next-count count) (next-window window b) false .after)
-      searches-on budget =
-          (none, omega arith, ⊎-elim
-          (λ lt. inr (suc j, lt, omega arith, more, omega arith, λ early. omega (arith, budget (omega arith))))
-          (λ ge. inl (omega arith, subst (λ n. Ends-idle n (not b) (next-window window b)) (all ge) more))
-          (cases-lt (suc j) 16))
+      searches-on budget = (
+        none,
+        omega arith,
+        ⊎-elim
+            (λ lt. inr (suc j, lt, omega arith, more, omega arith, λ early. omega (arith, budget (omega arith))))
+            (λ ge. inl (omega arith, subst (λ n. Ends-idle n (not b) (next-window window b)) (all ge) more))
+            (cases-lt (suc j) 16),
+      )
         where
           all : 16 ≤ suc j → suc j ≡ next-count count
           all ge = omega arith
