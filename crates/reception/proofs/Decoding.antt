@@ -37,7 +37,7 @@ seven-judged mode word zero (suc n) = tt
 seven-judged Detecting word (suc p) n = tt
 seven-judged Correcting word (suc p) n = seven-corrected word (wrong-place n)
 
-length-shown-from : (showing : Showing) (place : ℕ) (xs : List ℕ) → length (shown-from showing place xs) ≡ length xs
+pub length-shown-from : (showing : Showing) (place : ℕ) (xs : List ℕ) → length (shown-from showing place xs) ≡ length xs
 length-shown-from showing place [] = refl
 length-shown-from showing place (x ∷ xs) = ap suc (length-shown-from showing (suc place) xs)
 
@@ -57,7 +57,7 @@ closed : (candidate : Candidate) (n : ℕ) → length candidate / 7 ≡ suc n �
 closed [] n e = absurd (omega arith)
 closed (x ∷ xs) n e = refl
 
-seven-more : (m n : ℕ) → m ≡ n + 7 → m / 7 ≡ suc (n / 7)
+pub seven-more : (m n : ℕ) → m ≡ n + 7 → m / 7 ≡ suc (n / 7)
 seven-more m n e = omega arith
 
 module _ (settings : Settings) (showing : Showing) (K : ℕ) (F : List Candidate) where

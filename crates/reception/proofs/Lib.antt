@@ -4,3 +4,8 @@ pub mod Windows
 pub mod Decoding
 pub mod Kept
 pub mod Idle
+pub mod Brings
+pub mod Verdicts
+pub mod Starts
+pub mod Received
+pub mod Sent

@@ -74,7 +74,7 @@ no-exact-start-after-two b count window e =
     by false e = off-start (window ⊕ 0xEB90) 1 e (inl refl)
 
 -- idle goes on: one more of the window's last bits is idle
-pushed : (j x c : ℕ) → c < 2 → (2 * x + c) % 2 ^ suc j ≡ x % 2 ^ j * 2 + c
+pub pushed : (j x c : ℕ) → c < 2 → (2 * x + c) % 2 ^ suc j ≡ x % 2 ^ j * 2 + c
 pushed j x c h =
     let half : (2 * x + c) / 2 ≡ x = omega arith in
     let low : (2 * x + c) % 2 ≡ c = omega arith in
@@ -83,7 +83,7 @@ pushed j x c h =
 cut : (j x : ℕ) → j < 16 → x % 2 ^ 16 % 2 ^ suc j ≡ x % 2 ^ suc j
 cut j x h = let whole : 15 - j + suc j ≡ 16 = omega arith in ap (λ n. x % 2 ^ n % 2 ^ suc j) (sym whole) ∙ mod-mod-pow x (15 - j) (suc j)
 
-bit-below : (b : Bool) → bit-value b < 2
+pub bit-below : (b : Bool) → bit-value b < 2
 bit-below true = omega arith
 bit-below false = omega arith
 

@@ -2,4 +2,5 @@
 pub mod Reports
 pub mod Rules
 pub mod Runs
+pub mod Allowance
 pub mod Promise
