@@ -9,3 +9,4 @@ pub mod Verdicts
 pub mod Starts
 pub mod Received
 pub mod Sent
+pub mod Undamaged

@@ -224,7 +224,7 @@ under-fill : (n : ℕ) → Under 256 (replicate n 0x55)
 under-fill zero = tt
 under-fill (suc n) = (omega arith, under-fill n)
 
-under-filled : (frame : List ℕ) → Under 256 frame → Under 256 (filled frame)
+pub under-filled : (frame : List ℕ) → Under 256 frame → Under 256 (filled frame)
 under-filled frame h = under-append frame (replicate (fill-for (length frame)) 0x55) h (under-fill (fill-for (length frame)))
 
 shown-back : (showing : Showing) (r : Randomizer) → Matches showing r → (place : ℕ) (xs : List ℕ) → Under 256 xs → shown-from showing place (randomized-from r place xs) ≡ xs

@@ -8,8 +8,8 @@ use lib.ListN.{length, drop}
 use Rattle.std.specs.shelf.Digits.{Under}
 use Rattle.randomizer.specs.declared.Randomizer.{Randomizer}
 use Rattle.randomizer.specs.Sequence.{randomized}
-use Rattle.cltu.specs.Cltu.{filled}
-use Rattle.reception.specs.Allowance.{Received-cltu, symbols-of, Within-allowance}
+use Rattle.cltu.specs.Cltu.{codeblocks-for, filled, cltu}
+use Rattle.reception.specs.Allowance.{Received-cltu, symbols-of, Within-allowance, bits-of}
 use Rattle.std.specs.declared.option.Option.{Option}
 use Rattle.std.specs.declared.option.Option.the-variants.{Some, None}
 use Rattle.hold.specs.Candidates.{Candidate, Showing, shown-from, Matches}
@@ -135,7 +135,17 @@ module _ (settings : Settings) (showing : Showing) (randomizer : Randomizer) whe
       × (new-candidates settings showing then (events-of sent) ≡ map (λ t. shown-from showing 0 (information-sent randomizer t)) sent)
       × (Matches showing randomizer → new-candidates settings showing then (events-of sent) ≡ map (λ t. filled (t .frame)) sent)
 
+  -- a frame whose CLTU is received as it was sent, within the limit and with free space, comes back with its fill and no other change
+  abbrev pub Undamaged-comes-back : Type 0
+  Undamaged-comes-back =
+      (hold : Held) (earlier later : List Event) (frame : List ℕ) →
+      let then = after-events settings showing (made hold) earlier in
+      Clear (then .phase) (then .held) → Under 256 frame → 1 ≤ length frame → codeblocks-for (length frame) ≤ settings .limit → codeblocks-for (length frame) ≤ room (then .held) →
+      Carrier-stays-up later → symbols-in later ≡ bits-of (cltu randomizer frame) → Matches showing randomizer →
+      new-candidates settings showing then later ≡ filled frame ∷ []
+
 pub record Promise (settings : Settings) (showing : Showing) : Type 0 where
   pub stays : What-is-finished-stays settings showing
   pub back : Idle-brings-it-back settings showing
   pub received : (randomizer : Randomizer) → What-is-sent-then-is-received settings showing randomizer
+  pub undamaged : (randomizer : Randomizer) → Undamaged-comes-back settings showing randomizer

@@ -1,5 +1,5 @@
 -- The worked examples, computed by the checker. Assumes nothing.
-use mathlib.Core.Bool.{false}
+use mathlib.Core.Bool.{true, false}
 use mathlib.Core.Path.{_≡_, refl, ap, _∙_}
 use Prim.Native.Nat.{ℕ, _+_, _*_}
 use Rattle.bch.specs.declared.Mode.{Mode}
@@ -21,6 +21,11 @@ idle-from-zero-rejected : (mode : Mode) → verdict mode idle-from-zero ≡ Reje
 unfolding divided weight place-from
 idle-from-zero-rejected Detecting = refl
 idle-from-zero-rejected Correcting = refl
+
+whole-start : (mode : Mode) → starts mode 0xEB90 ≡ true
+unfolding weight
+whole-start Detecting = refl
+whole-start Correcting = refl
 
 two-wrong-bits : (mode : Mode) → starts mode 0xEB93 ≡ false
 unfolding weight
@@ -51,6 +56,9 @@ worked-examples =
       cltu-of-7 = octets 7;
       cltu-of-8 = octets 8;
       cltu-of-1024 = octets 1024;
+      tail-with-two-wrong-bits = refl;
+      tail-with-three-wrong-bits = refl;
+      start-undamaged = whole-start;
       start-with-a-wrong-bit = refl;
       start-with-a-wrong-bit-detected = refl;
       start-with-two-wrong-bits = two-wrong-bits;

@@ -72,6 +72,9 @@ pub record Worked-examples : Type 0 where
   pub cltu-of-7 : Cltu-octets 7 18
   pub cltu-of-8 : Cltu-octets 8 26
   pub cltu-of-1024 : Cltu-octets 1024 1186
+  pub tail-with-two-wrong-bits : verdict Correcting 0xC5C5_C5C5_C5C5_C57F ≡ Accepted (replicate 7 0xC5) true
+  pub tail-with-three-wrong-bits : verdict Detecting 0xC5C5_C5C5_C5C5_C5FF ≡ Accepted (replicate 7 0xC5) false
+  pub start-undamaged : (mode : Mode) → starts mode 0xEB90 ≡ true
   pub start-with-a-wrong-bit : starts Correcting 0xEB91 ≡ true
   pub start-with-a-wrong-bit-detected : starts Detecting 0xEB91 ≡ false
   pub start-with-two-wrong-bits : (mode : Mode) → starts mode 0xEB93 ≡ false
