@@ -1,4 +1,5 @@
 -- What holds of every run. Assumes nothing.
+pub mod Refused
 pub mod Finished
 pub mod Windows
 pub mod Decoding

@@ -2,5 +2,6 @@
 pub mod Reports
 pub mod Rules
 pub mod Runs
+pub mod Calls
 pub mod Allowance
 pub mod Promise

@@ -9,6 +9,7 @@ use Rattle.std.specs.shelf.Digits.{Under}
 use Rattle.randomizer.specs.declared.Randomizer.{Randomizer}
 use Rattle.randomizer.specs.Sequence.{randomized}
 use Rattle.cltu.specs.Cltu.{codeblocks-for, filled, cltu}
+use Rattle.reception.specs.Calls.{A-refused-call-changes-nothing}
 use Rattle.reception.specs.Allowance.{Received-cltu, symbols-of, Within-allowance, bits-of}
 use Rattle.std.specs.declared.option.Option.{Option}
 use Rattle.std.specs.declared.option.Option.the-variants.{Some, None}
@@ -145,6 +146,7 @@ module _ (settings : Settings) (showing : Showing) (randomizer : Randomizer) whe
       new-candidates settings showing then later ≡ filled frame ∷ []
 
 pub record Promise (settings : Settings) (showing : Showing) : Type 0 where
+  pub refused : A-refused-call-changes-nothing settings showing
   pub stays : What-is-finished-stays settings showing
   pub back : Idle-brings-it-back settings showing
   pub received : (randomizer : Randomizer) → What-is-sent-then-is-received settings showing randomizer

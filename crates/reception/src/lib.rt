@@ -2,6 +2,7 @@
 //! and what holds of every run of them.
 ghost use mathlib.Core.Path.{_≡_};
 ghost use Rattle.hold.specs.Candidates.{Showing};
+ghost use Rattle.reception.specs.Reports.{reason-number};
 ghost use Rattle.reception.specs.Rules.{settings};
 ghost use Rattle.reception.specs.Runs.{recovery-bits};
 ghost use Rattle.reception.specs.Promise.{Promise};
@@ -21,6 +22,21 @@ pub enum Reason {
     Full,
     /// The carrier went down.
     Down,
+}
+
+impl Reason {
+    /// The number of the reason.
+    pub fn number(self) -> u8
+        ensures { λ r. ⌜ r ≡ reason-number self ⌝ }
+    {
+        match self {
+            Reason::Closed => 1,
+            Reason::Empty => 2,
+            Reason::Long => 3,
+            Reason::Full => 4,
+            Reason::Down => 5,
+        }
+    }
 }
 
 /// What a receiver tells of a candidate that ended.
