@@ -5,8 +5,13 @@ use cltu::CodeblockLimit;
 use cltu::Sender;
 use coding::codeblock;
 use coding::judge;
+use hold::Hold;
+use hold::copy_oldest;
 use randomizer::Randomizer;
 use randomizer::sequence_octet;
+use ring::Cell;
+use ring::Ring;
+use ring::RingHold;
 use std::env;
 use std::error::AnyError;
 use std::fmt;
@@ -30,6 +35,11 @@ const ROUNDS: u64 = 5;
 /// How many places of the sequence one repetition reads.
 const PLACES: usize = 1_000;
 
+/// How many cells the large ring has, and the small one.
+const MANY_CELLS: usize = 8_192;
+
+const FEW_CELLS: usize = 8;
+
 /// How many octets the frame has.
 const FRAME_OCTETS: usize = 1_024;
 
@@ -49,6 +59,12 @@ enum Work {
     Judge(u64),
     /// CLTUs of a frame of 1,024 octets.
     Write(Sender),
+    /// Calls of a ring of few cells.
+    SmallRing,
+    /// Calls of a ring of many cells.
+    LargeRing,
+    /// Octets copied of a candidate of so many codeblocks.
+    Copy(usize),
 }
 
 impl Work {
@@ -61,6 +77,8 @@ impl Work {
             Work::Judge(0 | 2) => 6_000_000,
             Work::Judge(_) => 1_000_000,
             Work::Write(_) => 40_000,
+            Work::SmallRing | Work::LargeRing => 8_000_000,
+            Work::Copy(_) => 40_000_000,
         }
     }
 
@@ -72,6 +90,9 @@ impl Work {
             Work::ShiftRegister => shift_register_checksum(operations, round),
             Work::Judge(wrong) => judge_checksum(*wrong, operations, round),
             Work::Write(sender) => write_checksum(*sender, operations, round),
+            Work::SmallRing => small_ring_checksum(operations, round),
+            Work::LargeRing => large_ring_checksum(operations, round),
+            Work::Copy(codeblocks) => copy_checksum(*codeblocks, operations, round),
         }
     }
 }
@@ -184,6 +205,62 @@ fn written_checksum(
         let octets = sender.write_cltu(frame, memory).unwrap_or(0);
         let octet = memory.get(place).copied().unwrap_or(0);
         checksum = folded(checksum, (octets as u64).wrapping_add(u64::from(octet)));
+    }
+    checksum
+}
+
+fn small_ring_checksum(operations: u64, round: u64) -> u64 {
+    let mut cells = [Cell::EMPTY; FEW_CELLS];
+    ring_checksum(&mut cells, operations, round)
+}
+
+fn large_ring_checksum(operations: u64, round: u64) -> u64 {
+    let mut cells = [Cell::EMPTY; MANY_CELLS];
+    ring_checksum(&mut cells, operations, round)
+}
+
+// A candidate of two codeblocks comes and goes: eight calls each time.
+fn ring_checksum(cells: &mut [Cell], operations: u64, round: u64) -> u64 {
+    let mut ring = Ring::new(cells);
+    let mut checksum: u64 = round;
+    for number in 0..operations / 8 {
+        let _ = ring.open();
+        let _ = ring.add(information(number));
+        let _ = ring.add(information(round));
+        let _ = ring.finish();
+        let octet = ring.oldest_octet(3).unwrap_or(0);
+        let octets = ring.oldest_length().unwrap_or(0);
+        let _ = ring.release();
+        let free = ring.free_space() as u64;
+        checksum = folded(
+            checksum,
+            u64::from(octet)
+                .wrapping_add(octets as u64)
+                .wrapping_add(free),
+        );
+    }
+    checksum
+}
+
+fn copy_checksum(codeblocks: usize, operations: u64, round: u64) -> u64 {
+    let mut cells = [Cell::EMPTY; 147];
+    let mut ring = Ring::new(&mut cells);
+    let _ = ring.open();
+    for _ in 0..codeblocks {
+        let _ = ring.add(information(round));
+    }
+    let _ = ring.finish();
+    let mut memory = [0u8; 1_029];
+    let octets = (codeblocks as u64).saturating_mul(7).max(1);
+    copied_checksum(&ring, &mut memory, operations / octets, round)
+}
+
+fn copied_checksum<H: Hold>(hold: &H, memory: &mut [u8], copies: u64, round: u64) -> u64 {
+    let mut checksum: u64 = round;
+    for number in 0..copies {
+        let copied = copy_oldest(hold, memory).unwrap_or(0);
+        let octet = memory.get((number & 6) as usize).copied().unwrap_or(0);
+        checksum = folded(checksum, u64::from(octet).wrapping_add(copied as u64));
     }
     checksum
 }
@@ -370,11 +447,27 @@ fn time_writing(rt: &LibcRuntime) -> Result<(), AnyError> {
     Ok(())
 }
 
+fn time_ring(rt: &LibcRuntime) -> Result<(), AnyError> {
+    let large = Work::LargeRing;
+    let small = Work::SmallRing;
+    let _ = compare(rt, "call of a ring, 8,192 cells against 8", &large, &small)?;
+    let long = Work::Copy(147);
+    let short = Work::Copy(7);
+    let _ = compare(
+        rt,
+        "octet of a copy, candidate of 147 codeblocks against 7",
+        &long,
+        &short,
+    )?;
+    Ok(())
+}
+
 fn time(rt: &LibcRuntime) -> Result<(), AnyError> {
     time_sequence(rt)?;
     time_codeblock(rt)?;
     time_verdict(rt)?;
-    time_writing(rt)
+    time_writing(rt)?;
+    time_ring(rt)
 }
 
 /// What the arguments ask for.
