@@ -21,7 +21,7 @@ Brings (x ∷ xs) (carrier-down ∷ es) = ⊥
 Brings (x ∷ xs) (symbol y ∷ es) = (y ≡ x) × Brings xs es
 Brings (x ∷ xs) (release ∷ es) = Brings (x ∷ xs) es
 
-same-first : (x y : Bool) (xs ys : List Bool) → x ∷ xs ≡ y ∷ ys → (x ≡ y) × (xs ≡ ys)
+pub same-first : (x y : Bool) (xs ys : List Bool) → x ∷ xs ≡ y ∷ ys → (x ≡ y) × (xs ≡ ys)
 same-first x y xs ys e = (cc, cc)
 
 pub record Split (xs ys : List Bool) (es : List Event) : Type 0 where

@@ -13,10 +13,11 @@ use Rattle.bch.specs.declared.Verdict.{Verdict}
 use Rattle.bch.specs.declared.Verdict.the-variants.{Accepted, Rejected}
 use Rattle.bch.specs.Reception.{verdict}
 use Rattle.hold.specs.Candidates.{Candidate, Showing, open-codeblocks, finished-after-finish, after-release}
+use Rattle.reception.specs.declared.Reason.{Reason}
 use Rattle.reception.specs.declared.Reason.the-variants.{Closed, Empty, Long, Full, Down}
 use Rattle.reception.specs.Rules.{Settings, Held, abandoning, adding, added, room, is-start, next-count, next-window, bit-value, goes-on, ends, report, closing, counting-in, decoded-by, Phase, INACTIVE, SEARCH, DECODE, State, state, Event, carrier-up, carrier-down, symbol, release, Outcome, at-window, at-codeblock, at-word, at-event, made}
 use Rattle.reception.specs.Runs.{after-events}
-use Rattle.reception.specs.Promise.{announced, accepted-release, new-candidates, releases-accepted, What-is-finished-stays}
+use Rattle.reception.specs.Promise.{announced-by, announced, accepted-release, new-candidates, releases-accepted, What-is-finished-stays}
 
 -- one outcome adds what it announces to what is finished
 Adds : Held → Outcome → Type 0
@@ -25,32 +26,26 @@ Adds h o = o .after .held .finished ≡ h .finished ++ announced (h .opened) (o 
 nothing-new : (h : Held) → h .finished ≡ h .finished ++ []
 nothing-new h = sym (append-nil (h .finished))
 
--- nothing is announced by a report other than *closed*
+-- the candidate that is closed is the one that is announced
 open-closed : (h : Held) (opened : Option Candidate) (n k : ℕ) → open-codeblocks opened ≡ suc n → finished-after-finish (h .finished) opened ≡ h .finished ++ announced opened (report Closed (suc n) k ∷ [])
 open-closed h None n k e = absurd (omega arith)
 open-closed h (Some []) n k e = absurd (omega arith)
 open-closed h (Some (x ∷ xs)) n k e = refl
 
-not-empty : (opened : Option Candidate) (n k : ℕ) → announced opened (report Empty n k ∷ []) ≡ []
-not-empty None n k = refl
-not-empty (Some candidate) n k = refl
+-- nothing is announced by a report with another reason
+nothing-announced : (opened : Option Candidate) (reason : Reason) (n k : ℕ) → ((candidate : Candidate) → announced-by (Some candidate) reason ≡ []) →
+    announced opened (report reason n k ∷ []) ≡ []
+nothing-announced None reason n k none = refl
+nothing-announced (Some candidate) reason n k none = ap (λ l. l ++ []) (none candidate)
 
-not-long : (opened : Option Candidate) (n k : ℕ) → announced opened (report Long n k ∷ []) ≡ []
-not-long None n k = refl
-not-long (Some candidate) n k = refl
-
-not-full : (opened : Option Candidate) (n k : ℕ) → announced opened (report Full n k ∷ []) ≡ []
-not-full None n k = refl
-not-full (Some candidate) n k = refl
-
-not-down : (opened : Option Candidate) (n k : ℕ) → announced opened (report Down n k ∷ []) ≡ []
-not-down None n k = refl
-not-down (Some candidate) n k = refl
+abandoned : (h : Held) (reason : Reason) (n k : ℕ) → ((candidate : Candidate) → announced-by (Some candidate) reason ≡ []) →
+    h .finished ≡ h .finished ++ announced (h .opened) (report reason n k ∷ [])
+abandoned h reason n k none = sym (ap (λ l. h .finished ++ l) (nothing-announced (h .opened) reason n k none) ∙ append-nil (h .finished))
 
 module _ (settings : Settings) (showing : Showing) where
   closing-adds : (h : Held) (n k : ℕ) → added h ≡ n → Adds h (at-codeblock (closing h n k))
   unfolding Adds
-  closing-adds h zero k e = sym (ap (λ l. h .finished ++ l) (not-empty (h .opened) 0 k) ∙ append-nil (h .finished))
+  closing-adds h zero k e = abandoned h Empty 0 k (λ candidate. refl)
   closing-adds h (suc n) k e = open-closed h (h .opened) n k e
 
   counting-adds : (h : Held) (k : ℕ) (octets : List ℕ) (corrected : Bool) → Adds h (at-codeblock (counting-in settings showing h k octets corrected))
@@ -59,8 +54,8 @@ module _ (settings : Settings) (showing : Showing) where
     where
       by : (many full : Bool) →
           Adds h (at-codeblock (cond many (ends (abandoning h) (report Long (added h) k)) (cond full (ends (abandoning h) (report Full (added h) k)) (goes-on (adding showing h octets) (k + bit-value corrected)))))
-      by true full = sym (ap (λ l. h .finished ++ l) (not-long (h .opened) (added h) k) ∙ append-nil (h .finished))
-      by false true = sym (ap (λ l. h .finished ++ l) (not-full (h .opened) (added h) k) ∙ append-nil (h .finished))
+      by true full = abandoned h Long (added h) k (λ candidate. refl)
+      by false true = abandoned h Full (added h) k (λ candidate. refl)
       by false false = nothing-new h
 
   decoding-adds : (h : Held) (k : ℕ) (v : Verdict) → Adds h (at-codeblock (decoded-by settings showing h k v))
@@ -91,7 +86,7 @@ module _ (settings : Settings) (showing : Showing) where
   unfolding Adds
   down-adds INACTIVE h = nothing-new h
   down-adds (SEARCH c w) h = nothing-new h
-  down-adds (DECODE c w k) h = sym (ap (λ l. h .finished ++ l) (not-down (h .opened) (added h) k) ∙ append-nil (h .finished))
+  down-adds (DECODE c w k) h = abandoned h Down (added h) k (λ candidate. refl)
 
   released : (fs : List Candidate) → after-release fs ≡ drop (accepted-release release fs) (fs ++ [])
   released [] = refl

@@ -20,6 +20,7 @@ use Rattle.reception.specs.Promise.{Idle-brings-it-back}
 use Rattle.reception.proofs.Windows.{Ends-idle, fewer, no-start-after-four, no-exact-start-after-two, one-more-idle, still-idle, not-yet-full}
 use Rattle.reception.proofs.Decoding.{Is-open, Goes-right, codeblock-goes-right}
 use Rattle.reception.proofs.Kept.{Kept, began, kept-from-making}
+use Rattle.reception.proofs.Brings.{same-first}
 
 -- the value of the first bits of idle
 abbrev idle-bit : Bool → ℕ → Bool
@@ -226,9 +227,6 @@ module _ (settings : Settings) (showing : Showing) where
   settled Correcting (DECODE count word k) h b s = absurd (omega (arith, s .1, s .2, s .3))
   settled Detecting (DECODE count word k) h b s = absurd (⊎-elim (λ mixed. omega (arith, s .2, mixed)) (λ pure. omega (arith, s .2, pure .3)) (s .3))
 
-  same-first : (x b : Bool) (xs ys : List Bool) → x ∷ xs ≡ b ∷ ys → (x ≡ b) × (xs ≡ ys)
-  same-first x b xs ys e = (cc, cc)
-
   settles-at-last : (es : List Event) (s : State) (b : Bool) (bits left : ℕ) → Carrier-stays-up es → symbols-in es ≡ idle b bits → left ≤ bits → Settles M L b left s →
       Clear (after-events settings showing s es .phase) (after-events settings showing s es .held)
   settles-at-last [] s b zero left up e few st = settled M (s .phase) (s .held) b (subst (λ n. Settles M L b n s) (none few) st)
@@ -245,18 +243,14 @@ module _ (settings : Settings) (showing : Showing) where
       (subst (λ y. Settles M L (not b) (pred left) (at-event settings showing s (symbol y) .after)) (sym (same .0)) (symbol-settles (s .phase) (s .held) b left st))
   settles-at-last (release ∷ es) s b bits left up e few st = settles-at-last es (at-event settings showing s release .after) b bits left up e few (release-settles (s .phase) (s .held) b left st)
 
+  nothing-yet : (b : Bool) (window : ℕ) → Ends-idle 0 b window
+  nothing-yet true window = omega arith
+  nothing-yet false window = omega arith
+
   begins-to-settle : (mode : Mode) (p : Phase) (h : Held) (b : Bool) → Carrier-is-up p → Kept L p h → Settling mode L b (recovery-bits mode L) p h
   begins-to-settle mode INACTIVE h b up kept = absurd up
   begins-to-settle Correcting (SEARCH count window) h b up kept = (kept .0, kept .1, inr (0, omega arith, omega arith, nothing-yet b window, omega arith, λ lt. omega arith))
-    where
-      nothing-yet : (b : Bool) (window : ℕ) → Ends-idle 0 b window
-      nothing-yet true window = omega arith
-      nothing-yet false window = omega arith
   begins-to-settle Detecting (SEARCH count window) h b up kept = (kept .0, kept .1, inr (0, omega arith, omega arith, nothing-yet b window, omega arith, λ lt. omega arith))
-    where
-      nothing-yet : (b : Bool) (window : ℕ) → Ends-idle 0 b window
-      nothing-yet true window = omega arith
-      nothing-yet false window = omega arith
   begins-to-settle Correcting (DECODE count word k) h b up kept = (kept .0, kept .1, kept .2, omega arith)
   begins-to-settle Detecting (DECODE zero word k) h b up kept = (kept .0, kept .1, kept .2, inr (b, kept .3 refl ∙ idle-begins b, refl, omega arith))
   begins-to-settle Detecting (DECODE (suc count) word k) h b up kept = (kept .0, kept .1, kept .2, inl (omega arith))

@@ -25,7 +25,7 @@ use Rattle.reception.specs.Allowance.{value, Received-cltu, symbols-of, Within
 use Rattle.reception.specs.Promise.{announced, new-candidates, Idle-or-nothing, Carrier-stays-down, Carrier-break, Transmission, information-sent, events-of, Well-sent, Follow-one-another, Sent-from, What-is-sent-then-is-received}
 use Rattle.reception.proofs.Decoding.{length-shown-from}
 use Rattle.reception.proofs.Idle.{idle-is-no-start, idle-goes-in}
-use Rattle.reception.proofs.Brings.{Brings, split, Released, released-none, released-more, after-append, new-append, word-comes}
+use Rattle.reception.proofs.Brings.{same-first, Brings, split, Released, released-none, released-more, after-append, new-append, word-comes}
 use Rattle.reception.proofs.Starts.{Follows}
 use Rattle.reception.proofs.Received.{start-comes, blocks-come, room-kept}
 use Rattle.reception.proofs.Verdicts.{value-below, tail-is-rejected}
@@ -149,7 +149,7 @@ module _ (settings : Settings) (showing : Showing) where
       record { next = w .next; count = w .count; window = w .window; hold = w .hold; after = w .after; opened = w .opened; calm = w .calm; new = w .new }
   idle-comes (symbol x ∷ es) b zero count window h none calm up e = absurd (let z : _≡_ {A = ℕ} 0 1 = cc in omega arith)
   idle-comes (symbol x ∷ es) b (suc bits) count window h none calm up e =
-      let same = heads x b (symbols-in es) (idle (not b) bits) e in
+      let same = same-first x b (symbols-in es) (idle (not b) bits) e in
       let on = idle-goes-in settings showing b count window calm in
       let o = ap (λ v. at-window h (next-count count) (next-window window v) (is-start (settings .mode) (next-count count) (next-window window v))) (same .0)
       ∙ ap (at-window h (next-count count) (next-window window b)) (idle-is-no-start settings showing (not b) (next-count count) (next-window window b) on) in
@@ -164,9 +164,6 @@ module _ (settings : Settings) (showing : Showing) where
         calm = w .calm;
         new = ap (λ u. announced (h .opened) (u .reports) ++ new-candidates settings showing (u .after) es) o ∙ w .new;
       }
-    where
-      heads : (x y : Bool) (xs ys : List Bool) → x ∷ xs ≡ y ∷ ys → (x ≡ y) × (xs ≡ ys)
-      heads x y xs ys e = (cc, cc)
 
   empty-window : (b : Bool) → Nothing-but-idle b 0 0
   empty-window true = (omega arith, refl)
