@@ -1,6 +1,7 @@
 //! The telecommand code: codeblocks of 56 information bits, seven check bits and a filler bit, and
 //! what is made of one that is received. Here are its definitions, in `specs/`, and its laws; the
 //! functions that fly are in the crate `coding`.
+#![tactic(auto)]
 
 /// How a receiver treats wrong bits.
 #[derive(Clone, Copy, Debug, PartialEq, Eq)]

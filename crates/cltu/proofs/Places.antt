@@ -79,12 +79,12 @@ length_cltu r frame =
     omega (arith, length-append (coded count xs) tail_sequence, length_coded count xs (omega (arith, length_sent r frame)))
 
 -- the three parts put one behind the other, into memory that held `was`
-pub parts_are_the_cltu : (r : Randomizer) (frame was started Filled-in ended : List ℕ) (count : ℕ) → count ≡ codeblocks_for (length frame) →
+pub parts_are_the_cltu : (r : Randomizer) (frame was started filled_in ended : List ℕ) (count : ℕ) → count ≡ codeblocks_for (length frame) →
     started ≡ start_sequence ++ drop 2 was →
-    Filled-in ≡ take 2 started ++ (coded count (randomized r (filled frame)) ++ drop (2 + 8 * count) started) →
-    ended ≡ take (2 + 8 * count) Filled-in ++ (tail_sequence ++ drop (2 + 8 * count + 8) Filled-in) →
+    filled_in ≡ take 2 started ++ (coded count (randomized r (filled frame)) ++ drop (2 + 8 * count) started) →
+    ended ≡ take (2 + 8 * count) filled_in ++ (tail_sequence ++ drop (2 + 8 * count + 8) filled_in) →
     ended ≡ cltu r frame ++ drop (length (cltu r frame)) was
-parts_are_the_cltu r frame was started Filled-in ended count n e₁ e₂ e₃ =
+parts_are_the_cltu r frame was started filled_in ended count n e₁ e₂ e₃ =
     e₃ ∙ ap (λ m. take (2 + 8 * count) m ++ (tail_sequence ++ drop (2 + 8 * count + 8) m)) two
     ∙ put_behind (start_sequence ++ blocks) tail_sequence was (2 + 8 * count) (omega (arith, long))
     ∙ ap (λ k. ((start_sequence ++ blocks) ++ tail_sequence) ++ drop k was) end
@@ -100,7 +100,7 @@ parts_are_the_cltu r frame was started Filled-in ended count n e₁ e₂ e₃ =
     end : 2 + 8 * count + 8 ≡ 10 + 8 * count
     end = omega arith
 
-    two : Filled-in ≡ (start_sequence ++ blocks) ++ drop (2 + 8 * count) was
+    two : filled_in ≡ (start_sequence ++ blocks) ++ drop (2 + 8 * count) was
     two =
         e₂ ∙ ap (λ m. take 2 m ++ (blocks ++ drop (2 + 8 * count) m)) e₁ ∙ ap (λ k. take 2 (start_sequence ++ drop 2 was) ++ (blocks ++ drop (2 + k) (start_sequence ++ drop 2 was))) (sym long)
         ∙ put_behind start_sequence blocks was 2 refl ∙ ap (λ k. (start_sequence ++ blocks) ++ drop (2 + k) was) long

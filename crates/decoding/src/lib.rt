@@ -1,5 +1,6 @@
 //! Decoding: from a start sequence on, symbols become codeblocks, and codeblocks a candidate in a hold.
 //! Nothing here knows how a start is found.
+#![tactic(auto)]
 ghost use Rattle.std.specs.Prelude.{◌≡◌};
 ghost use Rattle.reception.specs.Rules.{next_word, opening, abandoning, added, report, ends, closing, counting_in, decoded, DECODE, at_symbol};
 ghost use Rattle.reception.specs.declared.Reason.TheVariants.{Down as down};

@@ -1,4 +1,5 @@
 //! A pass record as lines of text: what a receiver reports of it, and the candidates that it finishes.
+#![tactic(auto)]
 ghost use Rattle.std.specs.Prelude.{◌≡◌, ◌≤◌, [], ◌∷◌, ◌++◌, length, IfOk, Ok, string_bytes, codes, decimal, OnOk};
 ghost use Rattle.std.specs.List.{slice_get};
 ghost use Rattle.std.specs.Option.{option_to_list};

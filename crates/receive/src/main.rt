@@ -1,4 +1,5 @@
 //! `receive`: a pass record in, reports and candidates out, one line each.
+#![tactic(auto)]
 use anyhow::anyhow;
 use pass_lines::answer_record;
 use std::env;

@@ -1,4 +1,5 @@
 //! Runs receivers beside a model of reception in plain lists, and compares every answer.
+#![tactic(auto)]
 use anyhow::anyhow;
 use bch::Mode;
 use cltu::{CodeblockLimit, Sender};

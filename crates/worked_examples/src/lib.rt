@@ -1,4 +1,5 @@
 //! Worked examples of the definitions, proved, and a self test that runs some of them on the code.
+#![tactic(auto)]
 ghost use Rattle.std.specs.Prelude.{◌≡◌, true, ◌&&◌, slice_index};
 ghost use Rattle.bch.specs.Codeblock.{codeblock};
 ghost use Rattle.worked_examples.specs.Worked.{WorkedExamples};
