@@ -1,6 +1,7 @@
 //! The telecommand code at work: codeblocks written, and received words judged. A received word is
 //! 64 bits, the first bit received its highest.
 #![tactic(auto)]
+
 ghost use Rattle.std.specs.Prelude.{◌≡◌, ℕ, ◌*◌, ◌%◌, ◌^◌, ◌<◌, ◌≤◌, [], ◌∷◌, ◌++◌};
 ghost use Rattle.std.specs.Int.Digits.{number_from_digits as number_of_lem};
 ghost use Rattle.bch.specs.Polynomial.{weight, remainder as remainder_by, DivisionLeavesTheRemainder};

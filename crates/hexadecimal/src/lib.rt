@@ -1,5 +1,6 @@
 //! Octets as hexadecimal text, for programs on the ground that read and print frames.
 #![tactic(auto)]
+
 ghost use Rattle.std.specs.Prelude.{◌≡◌, ◌/◌, ◌%◌, ◌<◌, IfOk, vec_items, string_bytes};
 ghost use Rattle.std.specs.Option.{option_map};
 ghost use Rattle.hexadecimal.specs.Text.{digit_value, octet_of, octets_written, capital_digit, capital_digits, CapitalsReadBack};

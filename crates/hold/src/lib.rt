@@ -1,5 +1,6 @@
 //! Where received candidates wait: what a hold is, and a copy out of any hold.
 #![tactic(auto)]
+
 ghost use Rattle.std.specs.Prelude.{◌≡◌, ℕ, ◌≤◌, List, length, None as absent, Ok, Option as Optional};
 ghost use Rattle.hold.specs.Candidates.{Candidate, Showing, ShowsApart, Sound, free_space, open_codeblocks, open_answer, after_open, add_answer, after_add, finish_answer, open_after_finish, finished_after_finish, abandon_answer, release_answer, after_release, oldest_length, oldest_octet, stretch_answer, after_stretch, copy_answer, after_copy};
 

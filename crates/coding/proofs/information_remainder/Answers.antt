@@ -14,7 +14,7 @@ loop-octet-init c = (sym (divided_zero generator 7 64), omega arith)
 
 pub loop-octet-preserved : goal.loop-octet-preserved
 loop-octet-preserved c =
-    let is = c.octet-remainder-remainder.ensures in
+    let is = c.octet_remainder-remainder.ensures in
     let inv = c.loop-octet.invariant in
     let xs = c.args.information.now in
     let r = c.loop-octet.remainder in

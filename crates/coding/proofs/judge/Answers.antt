@@ -14,7 +14,7 @@ returns c =
     record {
       value = value;
       undamaged = subst (UndamagedIsAccepted word) (sym value) (undamaged_is_accepted mode word fits);
-      one-wrong-bit = subst (OneWrongBitIsCorrected mode word) (sym value) (one_wrong_bit_is_corrected mode word fits);
+      one_wrong_bit = subst (OneWrongBitIsCorrected mode word) (sym value) (one_wrong_bit_is_corrected mode word fits);
       two_wrong_bits = subst (TwoWrongBitsAreRejected word) (sym value) (two_wrong_bits_are_rejected mode word fits);
-      one-or-three = subst (OneOrThreeWrongBitsAreDetected mode word) (sym value) (one_or_three_wrong_bits_are_detected mode word fits);
+      one_or_three = subst (OneOrThreeWrongBitsAreDetected mode word) (sym value) (one_or_three_wrong_bits_are_detected mode word fits);
     }

@@ -20,11 +20,11 @@ read_back (x ∷ xs) octets =
 turn : (done octets : List ℕ) (i : ℕ) (all : List ℕ) → i < length octets → done ++ capital_digits (drop i octets) ≡ all → ((done ++ capital_digit (get_or octets i 0 / 16) ∷ []) ++ capital_digit (get_or octets i 0 % 16) ∷ []) ++ capital_digits (drop (i + 1) octets) ≡ all
 turn done octets i all inside so = simp append_assoc (sym (at_drop_more (λ xs. done ++ capital_digits xs) octets i 0 inside) ∙ so)
 
-pub returns-in-err-push : goal.returns-in-err-push
-returns-in-err-push c = search (rules, read_back)
+pub returns-in_err-push : goal.returns-in_err-push
+returns-in_err-push c = search (rules, read_back)
 
-pub returns-in-err-push-2 : goal.returns-in-err-push-2
-returns-in-err-push-2 c = search (rules, read_back)
+pub returns-in_err-push-2 : goal.returns-in_err-push-2
+returns-in_err-push-2 c = search (rules, read_back)
 
 pub loop-octet-preserved : goal.loop-octet-preserved
 loop-octet-preserved c = search (rules, turn)

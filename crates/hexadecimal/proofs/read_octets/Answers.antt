@@ -20,4 +20,4 @@ pub loop-left-preserved : goal.loop-left-preserved
 loop-left-preserved c =
     let long : 2 ≤ length c.loop-left.left.now = search rules in
     let next = turn _ c.loop-left.left.now c.in-Some.octet _ long c.in-Some.ensures c.loop-left.invariant in
-    simp (c.in-ok-push.ensures.items, take_rest) next
+    simp (c.in_ok-push.ensures.items, take_rest) next

@@ -12,6 +12,6 @@ returns g c =
     let all : octets - 0 ≡ octets = omega arith in
     record {
       answer = copy_answered fs memory octets c.requires.1 c.requires.0;
-      memory = ap (λ (l : List ℕ). l ++ drop (octets - 0) memory) c.read-oldest.ensures.memory
+      memory = ap (λ (l : List ℕ). l ++ drop (octets - 0) memory) c.read_oldest.ensures.memory
           ∙ ap (λ (n : ℕ). after_stretch fs 0 (take n memory) ++ drop n memory) all ∙ copied fs memory octets c.requires.1 c.requires.0;
     }
