@@ -1,5 +1,6 @@
 //! A layer over any hold that takes the randomizer's sequence off what is added.
 #![tactic(auto)]
+
 ghost use Rattle.std.specs.Prelude.{◌≡◌, ◌*◌, ◌≤◌};
 ghost use Rattle.randomizer.specs.declared.Randomizer.TheVariants.{On};
 ghost use Rattle.randomizer.specs.Sequence.{randomized_from};

@@ -1,5 +1,6 @@
 //! Worked examples of the definitions, proved, and a self test that runs some of them on the code.
 #![tactic(auto)]
+
 ghost use Rattle.std.specs.Prelude.{◌≡◌, true, ◌&&◌, slice_index};
 ghost use Rattle.bch.specs.Codeblock.{codeblock};
 ghost use Rattle.worked_examples.specs.Worked.{WorkedExamples};

@@ -9,5 +9,5 @@ returns c =
     let xs = c.args.memory.now in
     let ys = c.args.octets.now in
     let same : at + length ys - at ≡ length ys = omega arith in
-    ap₂ (λ (k : ℕ) (zs : List ℕ). take at xs ++ (zs ++ drop k (drop at xs))) same c.copy-from-slice.ensures.after
+    ap₂ (λ (k : ℕ) (zs : List ℕ). take at xs ++ (zs ++ drop k (drop at xs))) same c.copy_from_slice.ensures.after
     ∙ ap (λ r. take at xs ++ (ys ++ r)) (drop-drop (length ys) at xs)

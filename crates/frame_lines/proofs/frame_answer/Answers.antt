@@ -6,8 +6,8 @@ use Rattle.cltu.proofs.Written.{was_written}
 use Rattle.frame_lines.specs.Lines.{longest}
 use Rattle.frame_lines.proofs.frame_answer.Goals as goal
 
-pub cltu-line-requires : goal.cltu-line-requires
-cltu-line-requires c =
+pub cltu_line-requires : goal.cltu_line-requires
+cltu_line-requires c =
     let frame = c.args.frame.now in
     let whole = sent_cltu c.args.sender frame in
     let octets = c.in-Ok.octets in

@@ -6,4 +6,4 @@ use Rattle.pass_lines.proofs.copied_text.Goals as goal
 
 pub returns : goal.returns
 returns g c =
-    subst (λ (line : List ℕ). IfOk c.frame-text.result (λ s. string_bytes s ≡ line)) (ap frame_line c.copy-oldest.ensures.memory ∙ copied _ _ c.requires) c.frame-text.ensures
+    subst (λ (line : List ℕ). IfOk c.frame_text.result (λ s. string_bytes s ≡ line)) (ap frame_line c.copy_oldest.ensures.memory ∙ copied _ _ c.requires) c.frame_text.ensures

@@ -5,4 +5,4 @@ use Rattle.pass_lines.proofs.end_segment.Goals as goal
 
 pub returns : goal.returns
 returns g c =
-    passed_one g.H.Hold _ _ _ _ _ _ _ _ _ _ refl c.requires c.carrier-down.ensures.after c.carrier-down.ensures.queued c.in-ok-tell-waiting.ensures
+    passed_one g.H.Hold _ _ _ _ _ _ _ _ _ _ refl c.requires c.carrier_down.ensures.after c.carrier_down.ensures.queued c.in_ok-tell_waiting.ensures

@@ -9,13 +9,13 @@ use Rattle.pass_lines.proofs.take_segments.Goals as goal
 pub loop-number-init : goal.loop-number-init
 loop-number-init g c = passed_none g.H.Hold _ _ _ c.requires
 
-pub take-numbered-requires : goal.take-numbered-requires
-take-numbered-requires g c = c.loop-number.invariant.ready
+pub take_numbered-requires : goal.take_numbered-requires
+take_numbered-requires g c = c.loop-number.invariant.ready
 
 pub loop-number-preserved : goal.loop-number-preserved
 loop-number-preserved g c =
     passed_as (one_more_segment (segments_in c.args.pass) c.loop-number.number)
-    (passed_then g.H.Hold _ _ _ _ _ _ _ _ _ _ c.loop-number.invariant c.in-ok-take-numbered.ensures)
+    (passed_then g.H.Hold _ _ _ _ _ _ _ _ _ _ c.loop-number.invariant c.in_ok-take_numbered.ensures)
 
 pub returns : goal.returns
 returns g c = passed_as (ap pass_events (take_all c.loop-number.number (segments_in c.args.pass) (subst (λ n. n ≤ c.loop-number.number) c.count-number-end.ensures c.loop-number-test.false))) c.loop-number.invariant

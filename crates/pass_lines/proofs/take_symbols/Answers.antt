@@ -9,13 +9,13 @@ use Rattle.pass_lines.proofs.take_symbols.Goals as goal
 pub loop-place-init : goal.loop-place-init
 loop-place-init g c = passed_none g.H.Hold _ _ _ c.requires
 
-pub take-place-requires : goal.take-place-requires
-take-place-requires g c = c.loop-place.invariant.ready
+pub take_place-requires : goal.take_place-requires
+take_place-requires g c = c.loop-place.invariant.ready
 
 pub loop-place-preserved : goal.loop-place-preserved
 loop-place-preserved g c =
     passed_as (one_more_symbol (symbols_in c.args.segment) c.loop-place.place)
-    (passed_then g.H.Hold _ _ _ _ _ _ _ _ _ _ c.loop-place.invariant c.in-ok-take-place.ensures)
+    (passed_then g.H.Hold _ _ _ _ _ _ _ _ _ _ c.loop-place.invariant c.in_ok-take_place.ensures)
 
 pub returns : goal.returns
 returns g c = passed_as (ap symbol_events (take_all c.loop-place.place (symbols_in c.args.segment) (subst (λ n. n ≤ c.loop-place.place) c.len-place-end.ensures c.loop-place-test.false))) c.loop-place.invariant

@@ -2,7 +2,7 @@
 use Rattle.pass_lines.proofs.Passes.{tells_one}
 use Rattle.pass_lines.proofs.tell_waiting.Goals as goal
 
-pub returns-in-ok-tell : goal.returns-in-ok-tell
-returns-in-ok-tell g c =
+pub returns-in_ok-tell : goal.returns-in_ok-tell
+returns-in_ok-tell g c =
     let taken = c.in-Ok.ensures in
-    tells_one g.H.Hold _ _ _ _ _ _ _ c.requires taken.answer taken.capacity c.in-ok-tell.ensures
+    tells_one g.H.Hold _ _ _ _ _ _ _ c.requires taken.answer taken.capacity c.in_ok-tell.ensures

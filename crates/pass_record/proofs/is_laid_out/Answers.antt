@@ -6,13 +6,13 @@ use Rattle.pass_record.proofs.Places.{right_end, one_list_of_segments}
 use Rattle.pass_record.proofs.Laid.{LaidTo, laid_none, laid_more, laid_all, entry_right, ends_there}
 use Rattle.pass_record.proofs.is_laid_out.Goals as goal
 
-pub returns-then-not-ends-right : goal.returns-then-not-ends-right
-returns-then-not-ends-right c =
+pub returns-then-not-ends_right : goal.returns-then-not-ends_right
+returns-then-not-ends_right c =
     let octets = c.args.octets.now in
     record {
       tells = record {
         taken = λ e. absurd (false≢true e);
-        refused = λ _ segments is. false≢true (c.if-not-ends-right.ensures.1 (right_end octets segments is));
+        refused = λ _ segments is. false≢true (c.if-not-ends_right.ensures.1 (right_end octets segments is));
       };
       one = one_list_of_segments octets;
     }
@@ -20,20 +20,20 @@ returns-then-not-ends-right c =
 pub loop-i-init : goal.loop-i-init
 loop-i-init c = laid_none c.args.octets.now
 
-pub segment-end-requires : goal.segment-end-requires
-segment-end-requires c =
-    let end : RightEnd c.args.octets.now = c.if-not-ends-right.ensures.0 refl in
-    (omega (arith, c.told-count-i-end.ensures.below), omega (arith, c.loop-i.invariant.within, end.ends, end.most))
+pub segment_end-requires : goal.segment_end-requires
+segment_end-requires c =
+    let end : RightEnd c.args.octets.now = c.if-not-ends_right.ensures.0 refl in
+    (omega (arith, c.told_count-i-end.ensures.below), omega (arith, c.loop-i.invariant.within, end.ends, end.most))
 
 pub returns-in-default : goal.returns-in-default
 returns-in-default c =
     let octets = c.args.octets.now in
-    let end : RightEnd octets = c.if-not-ends-right.ensures.0 refl in
-    let before : c.loop-i.i < told_count octets = omega (arith, c.told-count-i-end.ensures.value) in
+    let end : RightEnd octets = c.if-not-ends_right.ensures.0 refl in
+    let before : c.loop-i.i < told_count octets = omega (arith, c.told_count-i-end.ensures.value) in
     record {
       tells = record {
         taken = λ e. absurd (false≢true e);
-        refused = λ _ segments is. c.in-default.ensures (entry_right octets (λ k. (c.type-inv.octets k).fits) end segments is c.loop-i.i c.loop-i.place before c.loop-i.invariant);
+        refused = λ _ segments is. c.in-default.ensures (entry_right octets (λ k. (c.type_inv.octets k).fits) end segments is c.loop-i.i c.loop-i.place before c.loop-i.invariant);
       };
       one = one_list_of_segments octets;
     }
@@ -43,22 +43,22 @@ loop-i-preserved c =
     let octets = c.args.octets.now in
     let i = c.loop-i.i in
     let place = c.loop-i.place in
-    let end : RightEnd octets = c.if-not-ends-right.ensures.0 refl in
-    let before : i < told_count octets = omega (arith, c.told-count-i-end.ensures.value) in
+    let end : RightEnd octets = c.if-not-ends_right.ensures.0 refl in
+    let before : i < told_count octets = omega (arith, c.told_count-i-end.ensures.value) in
     let known = c.in-Some.ensures in
-    subst (LaidTo octets _) (sym known.1) (laid_more octets (λ k. (c.type-inv.octets k).fits) end i place before c.loop-i.invariant known.0)
+    subst (LaidTo octets _) (sym known.1) (laid_more octets (λ k. (c.type_inv.octets k).fits) end i place before c.loop-i.invariant known.0)
 
 pub returns : goal.returns
 returns c =
     let octets = c.args.octets.now in
     let place = c.loop-i.place in
-    let end : RightEnd octets = c.if-not-ends-right.ensures.0 refl in
-    let all : c.loop-i.i ≡ told_count octets = omega (arith, c.told-count-i-end.ensures.value) in
+    let end : RightEnd octets = c.if-not-ends_right.ensures.0 refl in
+    let all : c.loop-i.i ≡ told_count octets = omega (arith, c.told_count-i-end.ensures.value) in
     let laid : LaidTo octets (told_count octets) place = subst (λ n. LaidTo octets n place) all c.loop-i.invariant in
     record {
       tells = record {
-        taken = λ e. laid_all octets (λ k. (c.type-inv.octets k).fits) end place laid (eqb-true place c.told-place.result e ∙ c.told-place.ensures.value);
-        refused = λ e segments is. eqb-false place c.told-place.result e (ends_there octets (λ k. (c.type-inv.octets k).fits) end segments is place laid ∙ sym c.told-place.ensures.value);
+        taken = λ e. laid_all octets (λ k. (c.type_inv.octets k).fits) end place laid (eqb-true place c.told_place.result e ∙ c.told_place.ensures.value);
+        refused = λ e segments is. eqb-false place c.told_place.result e (ends_there octets (λ k. (c.type_inv.octets k).fits) end segments is place laid ∙ sym c.told_place.ensures.value);
       };
       one = one_list_of_segments octets;
     }

@@ -8,12 +8,12 @@ use Rattle.pass_record.proofs.told_count.Goals as goal
 pub returns : goal.returns
 returns c =
     let octets = c.args.octets.now in
-    let count = c.number-at.result in
-    let value : count ≡ told_count octets = c.number-at.ensures.value ∙ ap (number_at octets) c.saturating-sub.ensures in
+    let count = c.number_at.result in
+    let value : count ≡ told_count octets = c.number_at.ensures.value ∙ ap (number_at octets) c.saturating_sub.ensures in
     let segments : count ≡ length (told_segments octets) = value ∙ sym (length-map-range_with_len (told_segment octets) 0 (told_count octets)) in
     record {
       value = value;
-      below = c.number-at.ensures.below;
+      below = c.number_at.ensures.below;
       segments = segments;
       past = λ i h. slice_get_past (told_segments octets) i (omega arith);
     }

@@ -11,6 +11,6 @@ returns c =
     record {
       passes = λ a b d e.
           c.all.ensures
-          ∙ and_from _ _ (eq-eqb _ _ (c.last-octet.ensures ∙ sym a)) (and_from _ _ (eq-eqb _ _ (c.last-octet-2.ensures ∙ sym b)) (and_from _ _ (eq-eqb _ _ (c.last-octet-3.ensures ∙ sym d)) (eq-eqb _ _ (c.last-octet-4.ensures ∙ sym e))));
+          ∙ and_from _ _ (eq-eqb _ _ (c.last_octet.ensures ∙ sym a)) (and_from _ _ (eq-eqb _ _ (c.last_octet-2.ensures ∙ sym b)) (and_from _ _ (eq-eqb _ _ (c.last_octet-3.ensures ∙ sym d)) (eq-eqb _ _ (c.last_octet-4.ensures ∙ sym e))));
       examples = worked_examples;
     }

@@ -5,5 +5,5 @@ use Rattle.cltu.proofs.Sender.cltu_octets.Goals as goal
 
 pub returns : goal.returns
 returns c =
-    let number = ap (λ n. 10 + 8 * n) c.codeblocks-for.ensures.value in
+    let number = ap (λ n. 10 + 8 * n) c.codeblocks_for.ensures.value in
     record { length = number ∙ sym (length_cltu c.args.self.randomizer c.args.frame.now); number = number }

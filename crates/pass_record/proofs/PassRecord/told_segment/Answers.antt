@@ -19,10 +19,10 @@ pub returns : goal.returns
 returns c =
     let octets = c.args.self.now.octets.now in
     let i = c.args.i in
-    let entry = c.told-entry-entry.result in
+    let entry = c.told_entry-entry.result in
     let from : drop c.min-begin.result octets ≡ drop (told_begin octets i) octets =
-    ap (λ k. drop k octets) c.min-begin.ensures ∙ drop_within entry.begin octets ∙ ap (λ k. drop k octets) c.told-entry-entry.ensures.begin in
+    ap (λ k. drop k octets) c.min-begin.ensures ∙ drop_within entry.begin octets ∙ ap (λ k. drop k octets) c.told_entry-entry.ensures.begin in
     slice_get-get_or (told_segments octets) i [] (omega (arith, length-map-range_with_len (told_segment octets) 0 (told_count octets), c.requires.0))
     ∙ ap Some
     (get_or-map-range_with_len (told_segment octets) 0 (told_count octets) i i [] c.requires.0 (zero-add i)
-    ∙ ap₂ (λ n xs. take n (bits_of xs)) (sym c.told-entry-entry.ensures.symbols) (sym (take_rest octets c.min-begin.result ∙ from)))
+    ∙ ap₂ (λ n xs. take n (bits_of xs)) (sym c.told_entry-entry.ensures.symbols) (sym (take_rest octets c.min-begin.result ∙ from)))

@@ -13,16 +13,16 @@ pub loop-symbol-init : goal.loop-symbol-init
 loop-symbol-init g c = (omega arith, refl, ran_none g.H.Hold c.args.self.now c.args.reports.now)
 
 pub overflow-add-made : goal.overflow-add-made
-overflow-add-made g c = omega (arith, c.loop-symbol.invariant.0, c.take-symbol-made.ensures.few)
+overflow-add-made g c = omega (arith, c.loop-symbol.invariant.0, c.take_symbol-made.ensures.few)
 
 pub loop-symbol-preserved : goal.loop-symbol-preserved
 loop-symbol-preserved g c =
     let inv = c.loop-symbol.invariant in
-    let next = c.take-symbol-made.ensures in
-    let more = one_more_symbol g.S.Symbol c.args.symbols.now c.loop-symbol.symbol-index c.symbol-item.result c.hard-decision.result (omega arith) c.symbol-item.is c.hard-decision.ensures in (
+    let next = c.take_symbol-made.ensures in
+    let more = one_more_symbol g.S.Symbol c.args.symbols.now c.loop-symbol.symbol-index c.symbol-item.result c.hard_decision.result (omega arith) c.symbol-item.is c.hard_decision.ensures in (
       omega (arith, inv.0, next.few),
       made_then g.H.Hold _ _ _ _ _ _ _ _ inv.2 inv.1 next.made ∙ ap (λ (es : List Event). length (reports_at g.H.Hold c.args.self.now es)) more,
-      subst (λ (es : List Event). Ran g.H.Hold es c.args.self.now c.take-symbol-made.new.self c.args.reports.now c.take-symbol-made.new.reports) more
+      subst (λ (es : List Event). Ran g.H.Hold es c.args.self.now c.take_symbol-made.new.self c.args.reports.now c.take_symbol-made.new.reports) more
           (ran_then g.H.Hold _ _ _ _ _ _ _ _ inv.2 next.ran),
     )
 
