@@ -12,8 +12,8 @@ use Rattle.receiver.proofs.Receiver.take_symbols.Goals as goal
 pub loop-symbol-init : goal.loop-symbol-init
 loop-symbol-init g c = (omega arith, refl, ran_none g.H.Hold c.args.self.now c.args.reports.now)
 
-pub overflow-add-made : goal.overflow-add-made
-overflow-add-made g c = omega (arith, c.loop-symbol.invariant.0, c.take_symbol-made.ensures.few)
+pub overflow_add-made : goal.overflow_add-made
+overflow_add-made g c = omega (arith, c.loop-symbol.invariant.0, c.take_symbol-made.ensures.few)
 
 pub loop-symbol-preserved : goal.loop-symbol-preserved
 loop-symbol-preserved g c =

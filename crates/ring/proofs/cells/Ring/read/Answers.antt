@@ -5,8 +5,8 @@ use Rattle.ring.specs.Held.{finished_in, oldest_of}
 use Rattle.ring.proofs.Turns.{length_oldest, oldest_first, length_used_cells, stretch_answered, stretch_read}
 use Rattle.ring.proofs.cells.Ring.read.Goals as goal
 
-pub overflow-add-place : goal.overflow-add-place
-overflow-add-place c =
+pub overflow_add-place : goal.overflow_add-place
+overflow_add-place c =
     let ring = c.args.self.now in
     let some = c.requires.0 in
     omega (arith, c.requires.1, length_oldest ring some, (oldest_first ring some).within, length_used_cells ring, ring.within, ring.most)

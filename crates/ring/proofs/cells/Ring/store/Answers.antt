@@ -6,14 +6,19 @@ use Rattle.ring.specs.Cells.{grouped, parted}
 use Rattle.ring.proofs.Writes.{finished_stay, add_answered, stored}
 use Rattle.ring.proofs.cells.Ring.store.Goals as goal
 
-pub invariant-of-self : goal.invariant-of-self
-invariant-of-self c =
+pub invariant_of-self : goal.invariant_of-self
+invariant_of-self c =
     let ring = c.args.self.now in
     let codeblocks = c.args.codeblocks in
     let place = c.place-place.result in
     let cell : Cell = record { octets = c.args.octets; codeblocks = 0 } in
     let same = length-set ring.cells.now place cell in
-    (omega (arith, same, ring.most), (omega (arith, same, ring.placed), (omega (arith, same, ring.within), (ap (parted ring.waiting) (finished_stay ring codeblocks c.requires.0 place (ring.used + codeblocks) cell (omega arith) c.requires.1 c.place-place.ensures) ∙ ring.whole, tt))))
+    record {
+      most = omega (arith, same, ring.most);
+      placed = omega (arith, same, ring.placed);
+      within = omega (arith, same, ring.within);
+      whole = ap (parted ring.waiting) (finished_stay ring codeblocks c.requires.0 place (ring.used + codeblocks) cell (omega arith) c.requires.1 c.place-place.ensures) ∙ ring.whole;
+    }
 
 pub returns : goal.returns
 returns c =
