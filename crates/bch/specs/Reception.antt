@@ -1,6 +1,6 @@
 -- What is made of 64 received bits, and what the code promises of wrong bits. A word of 64 bits is a number, the first bit the highest.
 -- Assumes nothing.
-use Rattle.std.specs.Prelude.{ℕ, zero, suc, ◌+◌, ◌/◌, ◌%◌, ◌^◌, true, false, cond, Some, None, Option, ◌==◌}
+use Rattle.std.specs.Prelude.{ℕ, zero, suc, ◌/◌, ◌%◌, ◌^◌, true, false, cond, Some, None, Option, ◌==◌}
 use Rattle.bch.specs.declared.Mode.{Mode}
 use Rattle.bch.specs.declared.Mode.TheVariants.{Detecting, Correcting}
 use Rattle.bch.specs.declared.Verdict.{Verdict}

@@ -1,5 +1,6 @@
 //! Writing a frame as a CLTU into the caller's memory.
 #![tactic(auto)]
+
 ghost use Rattle.std.specs.Prelude.{◌≡◌, ◌+◌, ◌*◌, ◌≤◌, ◌++◌, length, take, drop, bit_xor, slice_index_or};
 ghost use Rattle.randomizer.specs.Sequence.{added_at, randomized};
 ghost use Rattle.cltu.specs.Limit.{made_count, limit_answer};

@@ -1,5 +1,6 @@
 //! One queue in lent memory, for any plain record: no allocation, and constant time for each call.
 #![tactic(auto)]
+
 ghost use Rattle.std.specs.Prelude.{◌≡◌, ◌+◌, ◌<◌, ◌≤◌, [], length, MatchOption, MatchResult};
 ghost use Rattle.queue.specs.Waiting.{waiting, capacity, Put, RefusedFull, Taken, RefusedEmpty};
 ghost use Rattle.queue.specs.Places.{PlaceAfter, FreePlace, OldestPlace};

@@ -1,5 +1,6 @@
 //! The randomizer: a fixed sequence of bits that a sender adds to a filled frame before coding.
 #![tactic(auto)]
+
 ghost use Rattle.std.specs.Prelude.{◌≡◌, ℕ, ◌%◌, ◌<◌};
 ghost use Rattle.randomizer.specs.Sequence.{sequence_bit, sequence_octet, first_octets, added_at, FollowsTheRule, RandomizingTwiceGivesBack};
 

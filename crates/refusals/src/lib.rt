@@ -1,6 +1,7 @@
 //! Every refusal of the channel end, as one enum. A call refuses exactly when one of its own
 //! conditions applies, with the lowest number that applies, and alters nothing.
 #![tactic(auto)]
+
 ghost use Rattle.std.specs.Prelude.{◌≡◌};
 ghost use Rattle.refusals.specs.Numbers.{refusal_number};
 

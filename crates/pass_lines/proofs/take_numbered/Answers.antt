@@ -8,5 +8,5 @@ use Rattle.pass_lines.proofs.take_numbered.Goals as goal
 pub returns-in_ok-take_segment : goal.returns-in_ok-take_segment
 returns-in_ok-take_segment g c = passed_as (sym (append-nil _) ∙ ap (λ o. pass_events (option_to_list o)) c.in-Some.ensures) c.in_ok-take_segment.ensures
 
-pub returns-in-default : goal.returns-in-default
-returns-in-default g c = passed_as (ap (λ o. pass_events (option_to_list o)) c.in-default.ensures) (passed_none g.H.Hold _ _ _ c.requires)
+pub returns-in_default : goal.returns-in_default
+returns-in_default g c = passed_as (ap (λ o. pass_events (option_to_list o)) c.in_default.ensures) (passed_none g.H.Hold _ _ _ c.requires)

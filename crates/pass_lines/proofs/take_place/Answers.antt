@@ -8,5 +8,5 @@ use Rattle.pass_lines.proofs.take_place.Goals as goal
 pub returns-in_ok-take_symbol : goal.returns-in_ok-take_symbol
 returns-in_ok-take_symbol g c = passed_as (ap (λ o. symbol_events (option_to_list o)) c.in-Some.ensures) c.in_ok-take_symbol.ensures
 
-pub returns-in-default : goal.returns-in-default
-returns-in-default g c = passed_as (ap (λ o. symbol_events (option_to_list o)) c.in-default.ensures) (passed_none g.H.Hold _ _ _ c.requires)
+pub returns-in_default : goal.returns-in_default
+returns-in_default g c = passed_as (ap (λ o. symbol_events (option_to_list o)) c.in_default.ensures) (passed_none g.H.Hold _ _ _ c.requires)

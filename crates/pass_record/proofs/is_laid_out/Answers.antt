@@ -25,15 +25,15 @@ segment_end-requires c =
     let end : RightEnd c.args.octets.now = c.if-not-ends_right.ensures.0 refl in
     (omega (arith, c.told_count-i-end.ensures.below), omega (arith, c.loop-i.invariant.within, end.ends, end.most))
 
-pub returns-in-default : goal.returns-in-default
-returns-in-default c =
+pub returns-in_default : goal.returns-in_default
+returns-in_default c =
     let octets = c.args.octets.now in
     let end : RightEnd octets = c.if-not-ends_right.ensures.0 refl in
     let before : c.loop-i.i < told_count octets = omega (arith, c.told_count-i-end.ensures.value) in
     record {
       tells = record {
         taken = λ e. absurd (false≢true e);
-        refused = λ _ segments is. c.in-default.ensures (entry_right octets (λ k. (c.type_inv.octets k).fits) end segments is c.loop-i.i c.loop-i.place before c.loop-i.invariant);
+        refused = λ _ segments is. c.in_default.ensures (entry_right octets (λ k. (c.type_inv.octets k).fits) end segments is c.loop-i.i c.loop-i.place before c.loop-i.invariant);
       };
       one = one_list_of_segments octets;
     }
