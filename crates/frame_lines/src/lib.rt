@@ -1,5 +1,6 @@
 //! Frames as lines of hexadecimal text, and the line that answers each.
 #![tactic(auto)]
+
 ghost use Rattle.std.specs.Prelude.{◌≡◌, ◌≤◌, ◌++◌, length, IfOk, Some, Ok, string_bytes, codes, decimal};
 ghost use Rattle.refusals.specs.Numbers.{refusal_number};
 ghost use Rattle.cltu.specs.Writing.{sent_cltu, writing_answer};

@@ -2,7 +2,7 @@
 use Rattle.std.proofs.Common.{◌≡◌, ℕ, suc, ◌+◌, ◌*◌, ◌≤◌, Bool, true, false, List, [], ◌∷◌, ◌++◌, length, sym, refl, ap, ◌∙◌, append_assoc, append-nil, arith}
 use Rattle.std.proofs.lemmas.Bool.{eq-eqb, ne_eqb}
 use Rattle.hold.specs.Candidates.{Candidate, Showing, finished_codeblocks, after_release}
-use Rattle.reception.specs.Rules.{Settings, Held, releasing, room, bit_value, decoded, DECODE, State, state, Event, carrier_up, carrier_down, symbol, release, at_codeblock, at_word, at_event}
+use Rattle.reception.specs.Rules.{Settings, Held, releasing, bit_value, decoded, DECODE, State, state, Event, carrier_up, carrier_down, symbol, release, at_codeblock, at_word, at_event}
 use Rattle.reception.specs.Runs.{after_events, symbols_in, CarrierStaysUp}
 use Rattle.reception.specs.Allowance.{value_from}
 use Rattle.reception.specs.Promise.{announced, new_candidates}

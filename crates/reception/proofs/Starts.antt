@@ -1,5 +1,5 @@
 -- A start sequence after idle is found at its last bit and not before. Assumes nothing.
-use Rattle.std.proofs.Common.{◌≡◌, ℕ, zero, suc, ◌+◌, ◌-◌, ◌*◌, ◌/◌, ◌%◌, ◌^◌, ◌<◌, ◌≤◌, min, Bool, true, false, not, eqb, leb, ◌⊎◌, map, get_or, sym, refl, ap, ◌∙◌, subst, ap₂, inl, inr, add-suc, mod-lt, mod-eq_of_lt, mul_assoc, suc-add, pow-suc, zero-add, zero-mul, div-one, one-add, arith, pow_mono, shr-shr, shr_lt}
+use Rattle.std.proofs.Common.{◌≡◌, ℕ, zero, suc, ◌+◌, ◌-◌, ◌*◌, ◌/◌, ◌%◌, ◌^◌, ◌<◌, ◌≤◌, min, Bool, true, false, eqb, leb, ◌⊎◌, map, get_or, sym, refl, ap, ◌∙◌, subst, ap₂, inl, inr, add-suc, mod-lt, mod-eq_of_lt, mul_assoc, suc-add, pow-suc, zero-add, zero-mul, div-one, one-add, arith, pow_mono, shr-shr, shr_lt}
 use lib.Bits.{bit_xor, xor_assoc, xor_comm, xor_zero_r, xor_block, xor_shr, xor_mod, xor_lt}
 use lib.Pow.{mod-mod-pow, mod-pow-add, high, low}
 use Rattle.std.specs.List.{range_with_len}

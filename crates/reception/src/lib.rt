@@ -1,6 +1,7 @@
 //! Reception on paper: the rules by which a receiver goes from symbols to candidates, in `specs/`,
 //! and what holds of every run of them.
 #![tactic(auto)]
+
 ghost use Rattle.std.specs.Prelude.{◌≡◌};
 ghost use Rattle.hold.specs.Candidates.{Showing};
 ghost use Rattle.reception.specs.Reports.{reason_number};

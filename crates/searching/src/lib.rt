@@ -1,6 +1,7 @@
 //! From symbols to a start: what a symbol counts as, and the window in which a start sequence is
 //! searched.
 #![tactic(auto)]
+
 ghost use Rattle.std.specs.Prelude.{◌≡◌, Bool};
 ghost use Rattle.reception.specs.Rules.{next_count, next_window, start_tolerance, is_start};
 ghost use Rattle.searching.specs.Levels.{is_negative};
