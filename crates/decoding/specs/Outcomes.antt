@@ -1,13 +1,30 @@
 -- What decoding answers, with what the hold means then, in the words of the rules. Assumes nothing.
-use Rattle.reception.specs.Rules.{Held, Decoded, goes_on, ends, Phase, DECODE, Outcome, quietly, reporting, searching}
+use Rattle.std.specs.Prelude.{ℕ, min}
+use Rattle.reception.specs.Rules.{Held, Decoded, goes_on, ends, Phase, INACTIVE, SEARCH, DECODE, state, Outcome, quietly, reporting, searching}
 use Rattle.decoding.specs.declared.Added.{Added}
 use Rattle.decoding.specs.declared.Added.TheVariants.{GoesOn, Ends}
-use Rattle.decoding.specs.declared.Decoding.{Decoding}
+use Rattle.decoding.specs.declared.progress.Decoding.{Decoding}
 use Rattle.decoding.specs.declared.Step.{Step}
 use Rattle.decoding.specs.declared.Step.TheVariants.{Continues, Ended}
 
 abbrev pub phase_in : Decoding → Phase
 phase_in d = DECODE d.count d.word d.corrections
+
+-- corrections are told up to 65,535; no hold has more codeblocks
+abbrev pub told : ℕ → ℕ
+told corrections = min 65535 corrections
+
+abbrev pub told_decoded : Decoded → Decoded
+told_decoded (goes_on held corrections) = goes_on held (told corrections)
+told_decoded (ends held one) = ends held one
+
+abbrev pub told_phase : Phase → Phase
+told_phase INACTIVE = INACTIVE
+told_phase (SEARCH count window) = SEARCH count window
+told_phase (DECODE count word corrections) = DECODE count word (told corrections)
+
+abbrev pub told_outcome : Outcome → Outcome
+told_outcome o = record { after = state (told_phase o.after.phase) o.after.held; reports = o.reports }
 
 abbrev pub decoded_as : Added → Held → Decoded
 decoded_as (GoesOn corrections) held = goes_on held corrections

@@ -1,11 +1,12 @@
 //! Decoding: from a start sequence on, symbols become codeblocks, and codeblocks a candidate in a hold.
 //! Nothing here knows how a start is found.
 #![tactic(auto)]
-ghost use Rattle.std.specs.Prelude.{◌≡◌};
-ghost use Rattle.reception.specs.Rules.{next_word, opening, abandoning, added, report, ends, closing, counting_in, decoded, DECODE, at_symbol};
+
+ghost use Rattle.std.specs.Prelude.{◌≡◌, ◌+◌, ◌*◌};
+ghost use Rattle.reception.specs.Rules.{bit_value, opening, abandoning, added, report, ends, closing, counting_in, decoded, DECODE, at_symbol};
 ghost use Rattle.reception.specs.declared.Reason.TheVariants.{Down as down};
 ghost use Rattle.decoding.specs.Meaning.{rules_of, made_settings, settings_answer, held_in};
-ghost use Rattle.decoding.specs.Outcomes.{phase_in, decoded_as, outcome_as};
+ghost use Rattle.decoding.specs.Outcomes.{phase_in, decoded_as, outcome_as, told_decoded, told_outcome};
 
 use bch::{Mode, Verdict};
 use cltu::CodeblockLimit;
@@ -13,6 +14,10 @@ use coding::judge;
 use hold::Hold;
 use reception::{Reason, Report};
 use refusals::Refusal;
+
+mod progress;
+
+pub use progress::Decoding;
 
 /// What a receiver is set to.
 #[derive(Clone, Copy)]
@@ -32,17 +37,6 @@ impl Settings {
         let limit = CodeblockLimit::new(limit)?;
         Ok(Settings { mode, limit })
     }
-}
-
-/// The symbols of a codeblock so far, and what is to be told of the candidate that is open.
-#[derive(Clone, Copy)]
-pub struct Decoding {
-    // How many symbols of the codeblock there are.
-    count: u8,
-    // These symbols, the first of them highest.
-    word: u64,
-    // How many codeblocks of the candidate were corrected.
-    corrections: u16,
 }
 
 /// What a symbol brings.
@@ -69,9 +63,10 @@ impl Decoding {
         }
     }
 
-    /// One symbol more. The 64th of a codeblock has it judged, and the candidate goes on or ends.
+    /// One symbol more. The 64th of a codeblock has it judged, and the candidate goes on or ends. Corrections
+    /// are counted up to 65,535, which is more codeblocks than a hold can have.
     pub fn symbol<H: Hold>(self, hold: &mut H, settings: Settings, bit: bool) -> Step
-        ensures { outcome_as result (held_in H.Hold hold.new) ≡ at_symbol (rules_of settings) H.Hold.showing (phase_in self) (held_in H.Hold hold.old) bit }
+        ensures { outcome_as result (held_in H.Hold hold.new) ≡ told_outcome (at_symbol (rules_of settings) H.Hold.showing (phase_in self) (held_in H.Hold hold.old) bit) }
     {
         let word = self.word_with(bit);
         if self.count < 63 {
@@ -107,7 +102,7 @@ impl Decoding {
 
     // The symbols of the codeblock with one more.
     fn word_with(self, bit: bool) -> u64
-        ensures { result ≡ next_word self.word bit }
+        ensures { result ≡ 2 * self.word + bit_value bit }
     {
         (self.word << 1) | u64::from(bit)
     }
@@ -124,7 +119,7 @@ enum Added {
 
 // Judges 64 symbols and adds them to the open candidate, or ends it.
 fn decode<H: Hold>(hold: &mut H, settings: Settings, corrections: u16, word: u64) -> Added
-    ensures { decoded_as result (held_in H.Hold hold.new) ≡ decoded (rules_of settings) H.Hold.showing (held_in H.Hold hold.old) corrections word }
+    ensures { decoded_as result (held_in H.Hold hold.new) ≡ told_decoded (decoded (rules_of settings) H.Hold.showing (held_in H.Hold hold.old) corrections word) }
 {
     match judge(settings.mode, word) {
         Verdict::Rejected => Added::Ends(close(hold, corrections)),
@@ -163,7 +158,7 @@ fn count_in<H: Hold>(
     octets: [u8; 7],
     corrected: bool,
 ) -> Added
-    ensures { decoded_as result (held_in H.Hold hold.new) ≡ counting_in (rules_of settings) H.Hold.showing (held_in H.Hold hold.old) corrections octets corrected }
+    ensures { decoded_as result (held_in H.Hold hold.new) ≡ told_decoded (counting_in (rules_of settings) H.Hold.showing (held_in H.Hold hold.old) corrections octets corrected) }
 {
     let codeblocks = (*hold).open_codeblocks();
     let reason = if codeblocks >= settings.limit.count() {
