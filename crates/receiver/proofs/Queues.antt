@@ -1,11 +1,10 @@
 -- Reports that go into a queue, and those that are lost. Assumes nothing.
-use Rattle.std.proofs.Common.{◌≡◌, ℕ, zero, suc, ◌+◌, ◌-◌, ◌<◌, List, [], ◌∷◌, ◌++◌, length, take, sym, refl, ap, ◌∙◌, ap₂, append_assoc, append-nil, arith}
+use Rattle.std.proofs.Common.{◌≡◌, ℕ, zero, suc, ◌+◌, ◌-◌, ◌<◌, ◌≤◌, min, List, [], ◌∷◌, ◌++◌, length, take, sym, refl, ap, ◌∙◌, ap₂, append_assoc, append-nil, arith}
 use lib.Seq.{take-nil}
 use Rattle.std.proofs.lemmas.List.{length-append, length-take}
 use Rattle.queue.specs.declared.Queue.{Queue}
 use Rattle.queue.specs.Waiting.{waiting, capacity}
 use Rattle.reception.specs.declared.Report.{Report}
-use Rattle.reception.specs.Rules.{counted}
 use Rattle.reception.specs.Calls.{lost_after}
 use Rattle.receiver.specs.Meaning.{free_slots}
 use Rattle.receiver.specs.Events.{Queued}
@@ -14,8 +13,8 @@ use Rattle.receiver.specs.Events.{Queued}
 pub queued_none : (q : Queue Report) → Queued [] q q
 queued_none q = record { waits = sym (ap (λ l. waiting q ++ l) (take-nil (free_slots q)) ∙ append-nil (waiting q)); capacity = refl }
 
-pub lost_none : (free lost : ℕ) → lost ≡ lost_after free lost []
-lost_none free lost = omega arith
+pub lost_none : (free lost : ℕ) → lost ≤ 65535 → lost ≡ lost_after free lost []
+lost_none free lost few = omega arith
 
 -- one that finds a place, and one that finds none
 take_one : (n : ℕ) (x : Report) → 0 < n → take n (x ∷ []) ≡ x ∷ []
@@ -62,5 +61,5 @@ queued_then xs ys q mid later first second =
 pub lost_then : (free left lost : ℕ) (xs ys : List Report) → left ≡ free - length xs → lost_after left (lost_after free lost xs) ys ≡ lost_after free lost (xs ++ ys)
 lost_then free left lost xs ys e = by (length xs) (length ys) (length (xs ++ ys)) (length-append xs ys) e
   where
-    by : (m n all : ℕ) → all ≡ m + n → left ≡ free - m → counted (counted lost (m - free)) (n - left) ≡ counted lost (all - free)
+    by : (m n all : ℕ) → all ≡ m + n → left ≡ free - m → min 65535 (min 65535 (lost + (m - free)) + (n - left)) ≡ min 65535 (lost + (all - free))
     by m n all whole e = omega arith

@@ -12,9 +12,10 @@ use Rattle.reception.specs.Calls.{Call, symbol_events, events_in, refused_if_dow
 use Rattle.reception.proofs.Refused.{symbols_refused}
 use Rattle.reception.proofs.Brings.{after_append}
 use Rattle.reception.proofs.Decoding.{held}
-use Rattle.receiver.specs.declared.Receiver.{Receiver}
+use Rattle.receiver.specs.declared.state.Receiver.{Receiver}
 use Rattle.decoding.specs.Meaning.{rules_of, held_in}
-use Rattle.receiver.specs.Meaning.{phase_of, state_of, free_slots}
+use Rattle.receiver.specs.Phases.{phase_of}
+use Rattle.receiver.specs.Meaning.{state_of, free_slots}
 use Rattle.receiver.specs.Calls.{free_in, CameBy, Called}
 use Rattle.receiver.specs.Events.{outcome_of, reports_at, ComesTo, Queued, Told, Ran}
 use Rattle.receiver.proofs.Queues.{queued_none, queued_then, lost_none, lost_then, fewer_slots}
@@ -47,19 +48,19 @@ reports_append settings showing (e ∷ es) fs s =
 
 module _ {X : Type 0} (hold : Ghosts X) where
   -- an event that makes no report
-  pub ran_quietly : (e : Event) (before after : Receiver X) (q : Queue Report) → ComesTo hold before (outcome_of hold before e) after → (outcome_of hold before e).reports ≡ [] →
+  pub ran_quietly : (e : Event) (before after : Receiver X hold) (q : Queue Report) → ComesTo hold before (outcome_of hold before e) after → (outcome_of hold before e).reports ≡ [] →
       Ran hold (e ∷ []) before after q q
   ran_quietly e before after q to none =
       let no_report : reports_at hold before (e ∷ []) ≡ [] = append-nil (outcome_of hold before e).reports ∙ none in
       record {
         state = to.state;
         settings = to.settings;
-        lost = to.lost ∙ lost_none (free_slots q) before.lost ∙ ap (lost_after (free_slots q) before.lost) (sym no_report);
+        lost = to.lost ∙ lost_none (free_slots q) before.lost before.lost_few ∙ ap (lost_after (free_slots q) before.lost) (sym no_report);
         queued = subst (λ l. Queued l q q) (sym no_report) (queued_none q);
       }
 
   -- an event whose reports are told
-  pub ran_and_told : (e : Event) (before mid after : Receiver X) (q later : Queue Report) (reports : List Report) → ComesTo hold before (outcome_of hold before e) mid → reports ≡ (outcome_of hold before e).reports →
+  pub ran_and_told : (e : Event) (before mid after : Receiver X hold) (q later : Queue Report) (reports : List Report) → ComesTo hold before (outcome_of hold before e) mid → reports ≡ (outcome_of hold before e).reports →
       Told hold reports mid after q later → Ran hold (e ∷ []) before after q later
   ran_and_told e before mid after q later reports to makes told =
       let all : reports ≡ reports_at hold before (e ∷ []) = makes ∙ sym (append-nil (outcome_of hold before e).reports) in
@@ -70,23 +71,23 @@ module _ {X : Type 0} (hold : Ghosts X) where
         queued = subst (λ l. Queued l q later) all told.queued;
       }
 
-  pub told_none : (r : Receiver X) (q : Queue Report) (reports : List Report) → [] ≡ reports → Told hold reports r r q q
-  told_none r q reports none = subst (λ l. Told hold l r r q q) none (record { state = refl; settings = refl; lost = lost_none (free_slots q) r.lost; queued = queued_none q })
+  pub told_none : (r : Receiver X hold) (q : Queue Report) (reports : List Report) → [] ≡ reports → Told hold reports r r q q
+  told_none r q reports none = subst (λ l. Told hold l r r q q) none (record { state = refl; settings = refl; lost = lost_none (free_slots q) r.lost r.lost_few; queued = queued_none q })
 
-  pub ran_none : (r : Receiver X) (q : Queue Report) → Ran hold [] r r q q
-  ran_none r q = record { state = refl; settings = refl; lost = lost_none (free_slots q) r.lost; queued = queued_none q }
+  pub ran_none : (r : Receiver X hold) (q : Queue Report) → Ran hold [] r r q q
+  ran_none r q = record { state = refl; settings = refl; lost = lost_none (free_slots q) r.lost r.lost_few; queued = queued_none q }
 
-  reports_then : (es fs : List Event) (a b : Receiver X) (q mid : Queue Report) → Ran hold es a b q mid → reports_at hold a es ++ reports_at hold b fs ≡ reports_at hold a (es ++ fs)
+  reports_then : (es fs : List Event) (a b : Receiver X hold) (q mid : Queue Report) → Ran hold es a b q mid → reports_at hold a es ++ reports_at hold b fs ≡ reports_at hold a (es ++ fs)
   reports_then es fs a b q mid first =
       let rules = rules_of a.settings in
       ap (λ l. reports_at hold a es ++ l) (ap₂ (λ set s. reports_of (rules_of set) hold.showing s fs) first.settings first.state)
       ∙ sym (reports_append rules hold.showing es fs (state_of hold a))
 
-  pub made_then : (es fs : List Event) (a b : Receiver X) (q mid : Queue Report) (m n : ℕ) → Ran hold es a b q mid → m ≡ length (reports_at hold a es) → n ≡ length (reports_at hold b fs) → m + n ≡ length (reports_at hold a (es ++ fs))
+  pub made_then : (es fs : List Event) (a b : Receiver X hold) (q mid : Queue Report) (m n : ℕ) → Ran hold es a b q mid → m ≡ length (reports_at hold a es) → n ≡ length (reports_at hold b fs) → m + n ≡ length (reports_at hold a (es ++ fs))
   made_then es fs a b q mid m n first some more =
       ap₂ ◌+◌ some more ∙ sym (length-append (reports_at hold a es) (reports_at hold b fs)) ∙ ap length (reports_then es fs a b q mid first)
 
-  pub ran_then : (es fs : List Event) (a b c : Receiver X) (q mid later : Queue Report) → Ran hold es a b q mid → Ran hold fs b c mid later → Ran hold (es ++ fs) a c q later
+  pub ran_then : (es fs : List Event) (a b c : Receiver X hold) (q mid later : Queue Report) → Ran hold es a b q mid → Ran hold fs b c mid later → Ran hold (es ++ fs) a c q later
   ran_then es fs a b c q mid later first second =
       let rules = rules_of a.settings in
       let shown = hold.showing in
@@ -101,7 +102,7 @@ module _ {X : Type 0} (hold : Ghosts X) where
       }
 
   -- symbols in INACTIVE
-  pub ran_in_vain : (bits : List Bool) (r : Receiver X) (q : Queue Report) → phase_of r.phase ≡ INACTIVE → Ran hold (symbol_events bits) r r q q
+  pub ran_in_vain : (bits : List Bool) (r : Receiver X hold) (q : Queue Report) → phase_of r.phase ≡ INACTIVE → Ran hold (symbol_events bits) r r q q
   ran_in_vain bits r q e =
       let rules = rules_of r.settings in
       let here = ap (λ p. state p (held_in hold r.hold)) e in
@@ -110,18 +111,18 @@ module _ {X : Type 0} (hold : Ghosts X) where
       record {
         state = here ∙ sym none.0 ∙ ap (λ s. after_events rules hold.showing s (symbol_events bits)) (sym here);
         settings = refl;
-        lost = lost_none (free_slots q) r.lost ∙ ap (lost_after (free_slots q) r.lost) (sym no_report);
+        lost = lost_none (free_slots q) r.lost r.lost_few ∙ ap (lost_after (free_slots q) r.lost) (sym no_report);
         queued = subst (λ l. Queued l q q) (sym no_report) (queued_none q);
       }
 
   -- a call whose events ran
-  pub came_more : (call : Call) (before after : Receiver X) → state_of hold after ≡ after_call (rules_of before.settings) hold.showing (state_of hold before) call → after.settings ≡ before.settings →
+  pub came_more : (call : Call) (before after : Receiver X hold) → state_of hold after ≡ after_call (rules_of before.settings) hold.showing (state_of hold before) call → after.settings ≡ before.settings →
       (over : Held) (calls : List Call) → CameBy hold over calls before → CameBy hold over (call ∷ calls) after
   came_more call before after state settings over calls came =
       state ∙ ap (λ s. after_call (rules_of before.settings) hold.showing s call) came
       ∙ ap (λ set. after_calls (rules_of set) hold.showing over (call ∷ calls)) (sym settings)
 
-  pub called : (call : Call) (before after : Receiver X) (q later : Queue Report) → free_in call ≡ free_slots q → Ran hold (events_in call) before after q later → Called hold call before after
+  pub called : (call : Call) (before after : Receiver X hold) (q later : Queue Report) → free_in call ≡ free_slots q → Ran hold (events_in call) before after q later → Called hold call before after
   called call before after q later free ran =
       record {
         state = ran.state;
@@ -131,14 +132,14 @@ module _ {X : Type 0} (hold : Ghosts X) where
       }
 
   -- a call with no queue, whose one event makes no report
-  pub called_quietly : (call : Call) (e : Event) (before after : Receiver X) → events_in call ≡ e ∷ [] → ComesTo hold before (outcome_of hold before e) after → (outcome_of hold before e).reports ≡ [] → Called hold call before after
+  pub called_quietly : (call : Call) (e : Event) (before after : Receiver X hold) → events_in call ≡ e ∷ [] → ComesTo hold before (outcome_of hold before e) after → (outcome_of hold before e).reports ≡ [] → Called hold call before after
   called_quietly call e before after one to none =
       let rules = rules_of before.settings in
       let state = to.state ∙ ap (after_events rules hold.showing (state_of hold before)) (sym one) in
       record {
         state = state;
         settings = to.settings;
-        lost = to.lost ∙ lost_none (free_in call) before.lost
+        lost = to.lost ∙ lost_none (free_in call) before.lost before.lost_few
             ∙ ap (lost_after (free_in call) before.lost) (sym (ap (reports_at hold before) one ∙ append-nil (outcome_of hold before e).reports ∙ none));
         came = came_more call before after state to.settings;
       }

@@ -4,22 +4,15 @@ use Rattle.hold.specs.declared.Hold.{Ghosts}
 use Rattle.queue.specs.declared.Queue.{Queue}
 use Rattle.queue.specs.Waiting.{waiting, capacity}
 use Rattle.reception.specs.declared.Report.{Report}
-use Rattle.reception.specs.Rules.{Phase, INACTIVE, SEARCH, State, state, Event, carrier_up, carrier_down, symbol}
+use Rattle.reception.specs.Rules.{State, state, Event, carrier_up, carrier_down, symbol}
 use Rattle.reception.specs.Calls.{Call, call_symbols}
 use Rattle.searching.specs.declared.Symbol.{Ghosts as Kind}
 use Rattle.searching.specs.Symbols.{decisions}
 use Rattle.decoding.specs.Meaning.{held_in}
-use Rattle.decoding.specs.Outcomes.{phase_in}
-use Rattle.receiver.specs.declared.phase.Phase.{Phase as Kept}
-use Rattle.receiver.specs.declared.phase.Phase.TheVariants.{Inactive, Search, Decode}
 use Rattle.receiver.specs.declared.phase.Event.{Event as Incoming}
 use Rattle.receiver.specs.declared.phase.Event.TheVariants.{CarrierUp, CarrierDown, Symbol}
-use Rattle.receiver.specs.declared.Receiver.{Receiver}
-
-abbrev pub phase_of : Kept → Phase
-phase_of Inactive = INACTIVE
-phase_of (Search window) = SEARCH window.count window.bits
-phase_of (Decode decoding) = phase_in decoding
+use Rattle.receiver.specs.declared.state.Receiver.{Receiver}
+use Rattle.receiver.specs.Phases.{phase_of}
 
 abbrev pub event_of : Incoming → Event
 event_of CarrierUp = carrier_up
@@ -27,7 +20,7 @@ event_of CarrierDown = carrier_down
 event_of (Symbol bit) = symbol bit
 
 -- the state of a receiver, its hold included
-abbrev pub state_of : {X : Type 0} → Ghosts X → Receiver X → State
+abbrev pub state_of : {X : Type 0} → (hold : Ghosts X) → Receiver X hold → State
 state_of hold r = state (phase_of r.phase) (held_in hold r.hold)
 
 -- how many records a queue can still take

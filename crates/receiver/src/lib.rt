@@ -1,13 +1,16 @@
 //! The receiver: symbols in, candidates into a hold, reports into the caller's queue.
 #![tactic(auto)]
-ghost use Rattle.std.specs.Prelude.{◌≡◌, ◌≤◌, [], ◌∷◌, length};
+
+ghost use Rattle.std.specs.Prelude.{◌≡◌, ◌≤◌, true, [], ◌∷◌, length};
 ghost use Rattle.std.specs.Option.{option_to_list};
 ghost use Rattle.hold.specs.Candidates.{oldest_length, oldest_octet, copy_answer, after_copy};
-ghost use Rattle.reception.specs.Rules.{added, room, made, symbol, SEARCH, at_symbol};
+ghost use Rattle.reception.specs.Rules.{added, room, made, symbol, SEARCH, quietly, at_symbol};
 ghost use Rattle.reception.specs.Calls.{call_up, call_down, symbol_events, call_release, refusal, event_refusal, answered};
 ghost use Rattle.reception.specs.Promise.{Promise};
 ghost use Rattle.searching.specs.Symbols.{decisions};
 ghost use Rattle.decoding.specs.Meaning.{rules_of, held_in};
+ghost use Rattle.decoding.specs.Outcomes.{phase_in, outcome_as};
+ghost use Rattle.receiver.specs.Phases.{phase_of, few_corrections, few_after};
 ghost use Rattle.receiver.specs.Meaning.{state_of, event_of, free_slots, symbols_call};
 ghost use Rattle.receiver.specs.Calls.{named, reports_made, CameBy, Called};
 ghost use Rattle.receiver.specs.Events.{refused_by, reported_by, outcome_of, reports_at, ComesTo, Queued, Told, Ran};
@@ -21,6 +24,9 @@ use refusals::Refusal;
 use searching::{Symbol, Window};
 
 mod phase;
+mod state;
+
+pub use state::Receiver;
 
 /// The three states of a receiver.
 #[derive(Clone, Copy, Debug, PartialEq, Eq)]
@@ -33,20 +39,32 @@ pub enum ReceiverState {
     Decode,
 }
 
-/// A receiver over a hold, which it owns.
-#[derive(Drop)]
-pub struct Receiver<H> {
-    settings: Settings,
-    phase: Phase,
-    // How many reports found no place in the caller's queue, up to 65,535.
-    lost: u16,
-    hold: H,
-}
-
 // The promise of every receiver with these settings over a hold of this kind.
 fn promised<H: Hold>(settings: Settings)
     ensures { Promise (rules_of settings) H.Hold.showing }
 {}
+
+// A symbol in SEARCH, with this window so far.
+fn search<H: Hold>(window: Window, hold: &mut H, settings: Settings, bit: bool) -> Phase
+    ensures outcome { quietly (phase_of result) (held_in H.Hold hold.new) ≡ at_symbol (rules_of settings) H.Hold.showing (SEARCH window.count window.bits) (held_in H.Hold hold.old) bit }
+    ensures few { few_corrections (phase_of result) (held_in H.Hold hold.new) ≡ true }
+{
+    let window = window.with(bit);
+    if window.is_start(settings.mode) {
+        Phase::Decode(Decoding::begin(hold))
+    } else {
+        Phase::Search(window)
+    }
+}
+
+// A symbol in DECODE, with so much of the candidate so far.
+fn decode<H: Hold>(decoding: Decoding, hold: &mut H, settings: Settings, bit: bool) -> Step
+    requires { few_corrections (phase_in decoding) (held_in H.Hold hold.old) ≡ true }
+    ensures outcome { outcome_as result (held_in H.Hold hold.new) ≡ at_symbol (rules_of settings) H.Hold.showing (phase_in decoding) (held_in H.Hold hold.old) bit }
+    ensures few { few_after result (held_in H.Hold hold.new) ≡ true }
+{
+    decoding.symbol(hold, settings, bit)
+}
 
 impl<H: Hold> Receiver<H> {
     /// A receiver with these settings over a hold in any state, which it owns from then on. The hold's
@@ -206,7 +224,7 @@ impl<H: Hold> Receiver<H> {
                 Ok(None)
             }
             (Phase::Search(window), Event::Symbol(bit)) => {
-                self.search(window, bit);
+                self.phase = search(window, &mut self.hold, self.settings, bit);
                 Ok(None)
             }
             (Phase::Decode(decoding), Event::CarrierDown) => {
@@ -214,7 +232,7 @@ impl<H: Hold> Receiver<H> {
                 Ok(Some(decoding.lose_carrier(&mut self.hold)))
             }
             (Phase::Decode(decoding), Event::Symbol(bit)) => {
-                match decoding.symbol(&mut self.hold, self.settings, bit) {
+                match decode(decoding, &mut self.hold, self.settings, bit) {
                     Step::Continues(decoding) => {
                         self.phase = Phase::Decode(decoding);
                         Ok(None)
@@ -226,19 +244,6 @@ impl<H: Hold> Receiver<H> {
                 }
             }
         }
-    }
-
-    // A symbol in SEARCH, with this window so far.
-    fn search(&mut self, window: Window, bit: bool)
-        ensures after { ComesTo H.Hold self.old (at_symbol (rules_of self.old.settings) H.Hold.showing (SEARCH window.count window.bits) (held_in H.Hold self.old.hold) bit) self.new }
-        ensures quiet { (at_symbol (rules_of self.old.settings) H.Hold.showing (SEARCH window.count window.bits) (held_in H.Hold self.old.hold) bit).reports ≡ [] }
-    {
-        let window = window.with(bit);
-        self.phase = if window.is_start(self.settings.mode) {
-            Phase::Decode(Decoding::begin(&mut self.hold))
-        } else {
-            Phase::Search(window)
-        };
     }
 }
 

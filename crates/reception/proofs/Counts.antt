@@ -32,7 +32,7 @@ pub record Right (limit : ℕ) (o : Outcome) : Type 0 where
   pub few : Few o.after.phase o.after.held
   pub tells : All (TellsRight limit) o.reports
 
-one_more : (k : ℕ) (c : Bool) → k + bit_value c ≤ suc k
+pub one_more : (k : ℕ) (c : Bool) → k + bit_value c ≤ suc k
 one_more k true = omega arith
 one_more k false = omega arith
 

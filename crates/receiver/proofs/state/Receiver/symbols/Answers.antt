@@ -1,8 +1,8 @@
 -- Symbols in INACTIVE. Assumes nothing.
 use Rattle.std.proofs.Common.{refl, ap}
-use Rattle.receiver.specs.Meaning.{phase_of}
+use Rattle.receiver.specs.Phases.{phase_of}
 use Rattle.receiver.proofs.Ran.{refused_in_vain, ran_in_vain, called}
-use Rattle.receiver.proofs.Receiver.symbols.Goals as goal
+use Rattle.receiver.proofs.state.Receiver.symbols.Goals as goal
 
 pub returns-in-Inactive : goal.returns-in-Inactive
 returns-in-Inactive g c =

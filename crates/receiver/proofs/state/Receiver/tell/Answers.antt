@@ -2,7 +2,7 @@
 use Rattle.std.proofs.Common.{length, sym, ap}
 use Rattle.std.specs.Option.{option_to_list}
 use Rattle.receiver.proofs.Ran.{told_none}
-use Rattle.receiver.proofs.Receiver.tell.Goals as goal
+use Rattle.receiver.proofs.state.Receiver.tell.Goals as goal
 
 pub returns-in-None : goal.returns-in-None
 returns-in-None g c =

@@ -7,7 +7,7 @@ use Rattle.searching.specs.Symbols.{decisions}
 use Rattle.receiver.specs.Events.{reports_at, Ran}
 use Rattle.receiver.proofs.Ran.{ran_none, ran_then, made_then}
 use Rattle.receiver.proofs.Decided.{one_more_symbol}
-use Rattle.receiver.proofs.Receiver.take_symbols.Goals as goal
+use Rattle.receiver.proofs.state.Receiver.take_symbols.Goals as goal
 
 pub loop-symbol-init : goal.loop-symbol-init
 loop-symbol-init g c = (omega arith, refl, ran_none g.H.Hold c.args.self.now c.args.reports.now)

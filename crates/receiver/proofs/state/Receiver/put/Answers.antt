@@ -1,7 +1,7 @@
 -- A report that found a place in the queue. Assumes nothing.
 use Rattle.std.proofs.Common.{refl, arith}
 use Rattle.receiver.proofs.Queues.{queued_one}
-use Rattle.receiver.proofs.Receiver.put.Goals as goal
+use Rattle.receiver.proofs.state.Receiver.put.Goals as goal
 
 pub returns-in-Ok : goal.returns-in-Ok
 returns-in-Ok g c =

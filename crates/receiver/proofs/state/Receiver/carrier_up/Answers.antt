@@ -3,7 +3,7 @@ use Rattle.std.proofs.Common.{Option, refl, ap}
 use Rattle.refusals.specs.declared.Refusal.{Refusal}
 use Rattle.reception.specs.Calls.{answered}
 use Rattle.receiver.proofs.Ran.{up_is_quiet, called_quietly}
-use Rattle.receiver.proofs.Receiver.carrier_up.Goals as goal
+use Rattle.receiver.proofs.state.Receiver.carrier_up.Goals as goal
 
 pub returns-in-Ok : goal.returns-in-Ok
 returns-in-Ok g c =

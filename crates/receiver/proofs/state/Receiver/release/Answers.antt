@@ -1,9 +1,9 @@
 -- Release. Assumes nothing.
 use Rattle.std.proofs.Common.{refl, ap, ◌∙◌}
 use Rattle.reception.specs.Rules.{state}
-use Rattle.receiver.specs.Meaning.{phase_of}
+use Rattle.receiver.specs.Phases.{phase_of}
 use Rattle.receiver.proofs.Ran.{release_answered, same_held, called_quietly}
-use Rattle.receiver.proofs.Receiver.release.Goals as goal
+use Rattle.receiver.proofs.state.Receiver.release.Goals as goal
 
 pub returns : goal.returns
 returns g c =

@@ -4,7 +4,7 @@ use Rattle.refusals.specs.declared.Refusal.{Refusal}
 use Rattle.reception.specs.declared.Report.{Report}
 use Rattle.reception.specs.Calls.{answered}
 use Rattle.receiver.proofs.Ran.{ran_quietly, ran_and_told}
-use Rattle.receiver.proofs.Receiver.take_event.Goals as goal
+use Rattle.receiver.proofs.state.Receiver.take_event.Goals as goal
 
 pub returns-in-Ok : goal.returns-in-Ok
 returns-in-Ok g c =

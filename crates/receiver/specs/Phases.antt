@@ -1,0 +1,23 @@
+-- What the phase of a receiver means: a phase of the rules of reception. Assumes nothing.
+use Rattle.std.specs.Prelude.{Bool, true, ◌&&◌, is_some, nat_le}
+use Rattle.reception.specs.Rules.{Phase, INACTIVE, SEARCH, DECODE, Held, added}
+use Rattle.decoding.specs.declared.Step.{Step}
+use Rattle.decoding.specs.declared.Step.TheVariants.{Continues, Ended}
+use Rattle.decoding.specs.Outcomes.{phase_in}
+use Rattle.receiver.specs.declared.phase.Phase.{Phase as Kept}
+use Rattle.receiver.specs.declared.phase.Phase.TheVariants.{Inactive, Search, Decode}
+
+abbrev pub phase_of : Kept → Phase
+phase_of Inactive = INACTIVE
+phase_of (Search window) = SEARCH window.count window.bits
+phase_of (Decode decoding) = phase_in decoding
+
+-- in DECODE a candidate is open, and at most as many codeblocks were corrected as it has
+abbrev pub few_corrections : Phase → Held → Bool
+few_corrections INACTIVE h = true
+few_corrections (SEARCH count window) h = true
+few_corrections (DECODE count word corrections) h = is_some h.opened && nat_le corrections (added h)
+
+abbrev pub few_after : Step → Held → Bool
+few_after (Continues decoding) h = few_corrections (phase_in decoding) h
+few_after (Ended report) h = true
