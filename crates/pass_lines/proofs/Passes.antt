@@ -1,5 +1,5 @@
 -- Events one after the other, with what they tell. Assumes nothing.
-use Rattle.std.proofs.Common.{◌≡◌, ℕ, suc, ◌+◌, ◌<◌, ◌≤◌, Bool, true, false, leb, List, [], ◌∷◌, ◌++◌, length, take, sym, refl, ap, ◌∙◌, subst, ap₂, ⊎_elim, append_assoc, append-nil, arith}
+use Rattle.std.proofs.Common.{◌≡◌, ℕ, suc, ◌+◌, ◌*◌, ◌<◌, ◌≤◌, Bool, true, false, eqb, List, [], ◌∷◌, ◌++◌, length, take, sym, refl, ap, ◌∙◌, subst, ap₂, ⊎_elim, append_assoc, append-nil, arith}
 use Rattle.std.specs.Option.{option_to_list}
 use Rattle.std.specs.List.{slice_get}
 use Rattle.std.proofs.lemmas.List.{take_all, take_more, nil_from_length}
@@ -10,11 +10,11 @@ use Rattle.hold.specs.Candidates.{Showing}
 use Rattle.queue.specs.declared.Queue.{Queue}
 use Rattle.queue.specs.Waiting.{waiting, capacity, Taken}
 use Rattle.reception.specs.declared.Report.{Report}
-use Rattle.reception.specs.Rules.{Settings, Held, Decoded, goes_on, ends, decoded, Phase, INACTIVE, SEARCH, DECODE, State, Event, carrier_up, carrier_down, symbol, release, next_count, next_window, next_word, is_start, at_window, at_codeblock, at_word, at_event}
+use Rattle.reception.specs.Rules.{Settings, Held, Decoded, goes_on, ends, decoded, Phase, INACTIVE, SEARCH, DECODE, State, Event, carrier_up, carrier_down, symbol, release, next_count, next_window, bit_value, is_start, at_window, at_codeblock, at_word, at_event}
 use Rattle.reception.specs.Runs.{after_events, reports_of}
 use Rattle.reception.specs.Calls.{Call, call_up, symbol_events, events_in}
 use Rattle.decoding.specs.Meaning.{rules_of}
-use Rattle.receiver.specs.declared.Receiver.{Receiver}
+use Rattle.receiver.specs.declared.state.Receiver.{Receiver}
 use Rattle.receiver.specs.Meaning.{state_of, free_slots}
 use Rattle.receiver.specs.Calls.{reports_made, Called}
 use Rattle.receiver.specs.Events.{Queued}
@@ -22,7 +22,7 @@ use Rattle.receiver.proofs.Ran.{up_is_quiet}
 use Rattle.receiver.proofs.Decided.{events_append}
 use Rattle.pass_lines.specs.declared.PassLog.{PassLog}
 use Rattle.pass_lines.specs.Answers.{segment_events, pass_events}
-use Rattle.pass_lines.specs.Progress.{Progress, progress, progress_of, Goes_on, with_report, with_reports, after_outcome, run, Ready, TellsWaiting, Passed}
+use Rattle.pass_lines.specs.Progress.{Progress, progress, progress_of, GoesOn, with_report, with_reports, after_outcome, run, Ready, TellsWaiting, Passed}
 
 -- an event makes one report at most
 few_at_codeblock : (d : Decoded) → length (at_codeblock d).reports ≤ 1
@@ -46,7 +46,7 @@ few_reports settings showing (SEARCH c w) h carrier_down = omega arith
 few_reports settings showing (DECODE c w k) h carrier_down = omega arith
 few_reports settings showing INACTIVE h (symbol b) = omega arith
 few_reports settings showing (SEARCH c w) h (symbol b) = few_at_window h (next_count c) (next_window w b) (is_start settings.mode (next_count c) (next_window w b))
-few_reports settings showing (DECODE c w k) h (symbol b) = few_at_word settings showing h (suc c) (next_word w b) k (leb 64 (suc c))
+few_reports settings showing (DECODE c w k) h (symbol b) = few_at_word settings showing h (suc c) (2 * w + bit_value b) k (eqb (suc c) 64)
 few_reports settings showing p h release = omega arith
 
 -- the queue after one event: its report waits, if it made one
@@ -56,8 +56,8 @@ waits_one q later reports ready few queued =
     queued.waits ∙ ap₂ (λ (w : List Report) (n : ℕ). w ++ take n (reports ++ [])) ready.empty slot ∙ ap (take 1) (append-nil reports) ∙ take_all 1 reports few
 
 -- a report that waits is told, and none is left
-pub tells_one : {X : Type 0} (hold : Ghosts X) (before after : Receiver X) (log later : PassLog) (queue left : Queue Report) (one : Report) → length (waiting queue) ≤ 1 → Taken queue one left → capacity left ≡ capacity queue →
-    Goes_on hold before after (with_report (progress_of hold before log) one) later → TellsWaiting hold before after log later queue left
+pub tells_one : {X : Type 0} (hold : Ghosts X) (before after : Receiver X hold) (log later : PassLog) (queue left : Queue Report) (one : Report) → length (waiting queue) ≤ 1 → Taken queue one left → capacity left ≡ capacity queue →
+    GoesOn hold before after (with_report (progress_of hold before log) one) later → TellsWaiting hold before after log later queue left
 tells_one hold before after log later queue left one few taken same told =
     let none : waiting left ≡ [] = nil_from_length (waiting left) (omega (arith, ap length taken.oldest)) in
     record {
@@ -70,7 +70,7 @@ tells_one hold before after log later queue left one few taken same told =
     }
 
 -- one event by a call, and what it tells
-pub passed_one : {X : Type 0} (hold : Ghosts X) (call : Call) (e : Event) (before mid after : Receiver X) (log later : PassLog) (queue full left : Queue Report) → events_in call ≡ e ∷ [] → Ready queue →
+pub passed_one : {X : Type 0} (hold : Ghosts X) (call : Call) (e : Event) (before mid after : Receiver X hold) (log later : PassLog) (queue full left : Queue Report) → events_in call ≡ e ∷ [] → Ready queue →
     Called hold call before mid → Queued (reports_made hold before call) queue full → TellsWaiting hold mid after log later full left → Passed hold (e ∷ []) before after log later left
 passed_one hold call e before mid after log later queue full left one ready called queued told =
     let rules = rules_of before.settings in
@@ -87,7 +87,7 @@ passed_one hold call e before mid after log later queue full left one ready call
     }
 
 -- carrier up tells nothing
-pub passed_up : {X : Type 0} (hold : Ghosts X) (before after : Receiver X) (log : PassLog) (queue : Queue Report) → Ready queue → Called hold call_up before after → Passed hold (carrier_up ∷ []) before after log log queue
+pub passed_up : {X : Type 0} (hold : Ghosts X) (before after : Receiver X hold) (log : PassLog) (queue : Queue Report) → Ready queue → Called hold call_up before after → Passed hold (carrier_up ∷ []) before after log log queue
 passed_up hold before after log queue ready called =
     let outcome = at_event (rules_of before.settings) hold.showing (state_of hold before) carrier_up in
     record {
@@ -103,7 +103,7 @@ run_append : (settings : Settings) (showing : Showing) (es fs : List Event) (p :
 run_append settings showing [] fs p = refl
 run_append settings showing (e ∷ es) fs p = run_append settings showing es fs (after_outcome p (at_event settings showing p.at e))
 
-pub passed_then : {X : Type 0} (hold : Ghosts X) (es fs : List Event) (a b c : Receiver X) (log mid later : PassLog) (queue left : Queue Report) → Passed hold es a b log mid queue → Passed hold fs b c mid later left → Passed hold (es ++ fs) a c log later left
+pub passed_then : {X : Type 0} (hold : Ghosts X) (es fs : List Event) (a b c : Receiver X hold) (log mid later : PassLog) (queue left : Queue Report) → Passed hold es a b log mid queue → Passed hold fs b c mid later left → Passed hold (es ++ fs) a c log later left
 passed_then hold es fs a b c log mid later queue left first second =
     record {
       goes_on = record {
@@ -114,10 +114,10 @@ passed_then hold es fs a b c log mid later queue left first second =
       ready = second.ready;
     }
 
-pub passed_as : {X : Type 0} {hold : Ghosts X} {es fs : List Event} {a b : Receiver X} {log later : PassLog} {queue : Queue Report} → es ≡ fs → Passed hold es a b log later queue → Passed hold fs a b log later queue
+pub passed_as : {X : Type 0} {hold : Ghosts X} {es fs : List Event} {a b : Receiver X hold} {log later : PassLog} {queue : Queue Report} → es ≡ fs → Passed hold es a b log later queue → Passed hold fs a b log later queue
 passed_as {X} {hold} {es} {fs} {a} {b} {log} {later} {queue} same passed = subst (λ l. Passed hold l a b log later queue) same passed
 
-pub passed_none : {X : Type 0} (hold : Ghosts X) (r : Receiver X) (log : PassLog) (queue : Queue Report) → Ready queue → Passed hold [] r r log log queue
+pub passed_none : {X : Type 0} (hold : Ghosts X) (r : Receiver X hold) (log : PassLog) (queue : Queue Report) → Ready queue → Passed hold [] r r log log queue
 passed_none hold r log queue ready = record { goes_on = record { settings = refl; come = refl }; ready = ready }
 
 -- one element more from the front of a list, if there is one

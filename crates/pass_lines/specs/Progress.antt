@@ -3,11 +3,12 @@ use Rattle.std.specs.Prelude.{◌≡◌, ℕ, cond, List, [], ◌∷◌, ◌++�
 use Rattle.hold.specs.declared.Hold.{Ghosts}
 use Rattle.hold.specs.Candidates.{Showing}
 use Rattle.reception.specs.declared.Report.{Report}
-use Rattle.reception.specs.Rules.{Settings, State, state, releasing, counted, Event, Outcome, at_event}
+use Rattle.reception.specs.Rules.{Settings, State, state, releasing, Event, Outcome, at_event}
+use Rattle.reception.specs.Counting.{counted}
 use Rattle.queue.specs.declared.Queue.{Queue}
 use Rattle.queue.specs.Waiting.{waiting, capacity}
 use Rattle.decoding.specs.Meaning.{rules_of}
-use Rattle.receiver.specs.declared.Receiver.{Receiver}
+use Rattle.receiver.specs.declared.state.Receiver.{Receiver}
 use Rattle.receiver.specs.Meaning.{state_of}
 use Rattle.pass_lines.specs.declared.PassLog.{PassLog}
 use Rattle.pass_lines.specs.Lines.{report_line, oldest_line, is_closed}
@@ -22,7 +23,7 @@ pub record Progress : Type 0 where
 abbrev pub progress : State → PassLog → Progress
 progress s log = record { at = s; text = string_bytes log.text; reports = log.reports; frames = log.frames }
 
-abbrev pub progress_of : {X : Type 0} → Ghosts X → Receiver X → PassLog → Progress
+abbrev pub progress_of : {X : Type 0} → (hold : Ghosts X) → Receiver X hold → PassLog → Progress
 progress_of hold receiver log = progress (state_of hold receiver) log
 
 -- a text more, and r reports and f frames
@@ -32,7 +33,7 @@ pub record Writes (more : List ℕ) (r f : ℕ) (before after : PassLog) : Type 
   pub frames : after.frames ≡ counted before.frames f
 
 -- a receiver and what is written have come so far; the settings stay
-pub record Goes_on {X : Type 0} (hold : Ghosts X) (before after : Receiver X) (to : Progress) (log : PassLog) : Type 0 where
+pub record GoesOn {X : Type 0} (hold : Ghosts X) (before after : Receiver X hold) (to : Progress) (log : PassLog) : Type 0 where
   pub settings : after.settings ≡ before.settings
   pub come : progress_of hold after log ≡ to
 
@@ -72,12 +73,12 @@ pub record Ready (queue : Queue Report) : Type 0 where
   pub one : capacity queue ≡ 1
 
 -- what waits is told
-pub record TellsWaiting {X : Type 0} (hold : Ghosts X) (before after : Receiver X) (log later : PassLog) (queue left : Queue Report) : Type 0 where
-  pub goes_on : Goes_on hold before after (with_reports (progress_of hold before log) (waiting queue)) later
+pub record TellsWaiting {X : Type 0} (hold : Ghosts X) (before after : Receiver X hold) (log later : PassLog) (queue left : Queue Report) : Type 0 where
+  pub goes_on : GoesOn hold before after (with_reports (progress_of hold before log) (waiting queue)) later
   pub empty : waiting left ≡ []
   pub capacity : capacity left ≡ capacity queue
 
 -- a receiver and what is written after events, with nothing left to tell
-pub record Passed {X : Type 0} (hold : Ghosts X) (events : List Event) (before after : Receiver X) (log later : PassLog) (queue : Queue Report) : Type 0 where
-  pub goes_on : Goes_on hold before after (run (rules_of before.settings) hold.showing (progress_of hold before log) events) later
+pub record Passed {X : Type 0} (hold : Ghosts X) (events : List Event) (before after : Receiver X hold) (log later : PassLog) (queue : Queue Report) : Type 0 where
+  pub goes_on : GoesOn hold before after (run (rules_of before.settings) hold.showing (progress_of hold before log) events) later
   pub ready : Ready queue

@@ -1,11 +1,12 @@
 //! A pass record as lines of text: what a receiver reports of it, and the candidates that it finishes.
 #![tactic(auto)]
+
 ghost use Rattle.std.specs.Prelude.{◌≡◌, ◌≤◌, [], ◌∷◌, ◌++◌, length, IfOk, Ok, string_bytes, codes, decimal, OnOk};
 ghost use Rattle.std.specs.List.{slice_get};
 ghost use Rattle.std.specs.Option.{option_to_list};
 ghost use Rattle.refusals.specs.Numbers.{refusal_number};
 ghost use Rattle.hold.specs.Candidates.{oldest_length};
-ghost use Rattle.pass_lines.specs.Progress.{progress_of, with_report, Goes_on, Writes, Ready, TellsWaiting, Passed};
+ghost use Rattle.pass_lines.specs.Progress.{progress_of, with_report, GoesOn, Writes, Ready, TellsWaiting, Passed};
 ghost use Rattle.queue.specs.Waiting.{waiting};
 ghost use Rattle.reception.specs.Rules.{symbol, carrier_down};
 ghost use Rattle.reception.specs.Calls.{symbol_events};
@@ -144,7 +145,7 @@ fn tell<H: Hold>(
     log: &mut PassLog,
     report: Report,
 ) -> Result<(), AllocError>
-    ensures { OnOk result (Goes_on H.Hold receiver.old receiver.new (with_report (progress_of H.Hold receiver.old log.old) report) log.new) }
+    ensures { OnOk result (GoesOn H.Hold receiver.old receiver.new (with_report (progress_of H.Hold receiver.old log.old) report) log.new) }
 {
     log.write_report(heap, report)?;
     if is_closed(report.reason) {

@@ -1,6 +1,6 @@
 -- A symbol in DECODE: its outcome is told as the rules have it. Assumes nothing.
-use Rattle.std.proofs.Common.{◌≤◌, arith}
-use Rattle.reception.specs.Rules.{added, at_symbol}
+use Rattle.std.proofs.Common.{arith}
+use Rattle.reception.specs.Rules.{at_symbol}
 use Rattle.decoding.specs.Meaning.{rules_of, held_in}
 use Rattle.decoding.specs.Outcomes.{phase_in}
 use Rattle.receiver.proofs.Few.{symbol_few, told_right}
