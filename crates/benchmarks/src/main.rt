@@ -1,5 +1,6 @@
 //! `benchmarks`: what the code costs, against rivals in the same run.
 #![tactic(auto)]
+
 use anyhow::anyhow;
 use bch::{Mode, Verdict};
 use cltu::{CodeblockLimit, Sender};

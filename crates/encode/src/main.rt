@@ -1,5 +1,6 @@
 //! `encode`: frames in, CLTUs out, one line each.
 #![tactic(auto)]
+
 use anyhow::anyhow;
 use cltu::{CodeblockLimit, Sender};
 use frame_lines::answer_line;

@@ -1,6 +1,7 @@
 //! Runs one long list of operations on a hold and on a model of it that is a plain list, and compares
 //! every answer: over a ring that wraps many times, over the derandomizing layer, and over no cells.
 #![tactic(auto)]
+
 use derandomizing::Derandomizing;
 use hold::{Hold, copy_oldest};
 use randomizer::sequence_octet;

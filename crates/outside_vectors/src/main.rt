@@ -1,5 +1,6 @@
 //! Runs the code on test vectors that an unrelated encoder made: see vectors/README.md.
 #![tactic(auto)]
+
 use bch::{Mode, Verdict};
 use coding::{codeblock, judge, syndrome, wrong_place};
 use hexadecimal::{capitals, read_octets};

@@ -1,5 +1,6 @@
 //! `receive`: a pass record in, reports and candidates out, one line each.
 #![tactic(auto)]
+
 use anyhow::anyhow;
 use pass_lines::answer_record;
 use std::env;

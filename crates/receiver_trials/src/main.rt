@@ -1,5 +1,6 @@
 //! Runs receivers beside a model of reception in plain lists, and compares every answer.
 #![tactic(auto)]
+
 use anyhow::anyhow;
 use bch::Mode;
 use cltu::{CodeblockLimit, Sender};
@@ -458,7 +459,7 @@ impl Tally {
 
 /// A receiver, its queue and the model of both.
 #[derive(Drop)]
-struct Bench<'a, H> {
+struct Bench<'a, H: Hold> {
     heap: Global,
     setup: Setup,
     receiver: Receiver<H>,
