@@ -2,7 +2,7 @@
 use Rattle.std.specs.Prelude.{◌≡◌, ℕ, ◌+◌, ◌-◌, ◌*◌, ◌/◌, ◌%◌, ◌<◌, cond, List, [], ◌∷◌, Some, None, Option, nat_lt}
 use Rattle.std.specs.Option.{option_map}
 use Rattle.std.specs.Int.{is_in_range}
-use Rattle.std.specs.List.{AllByRecursion as All}
+use Rattle.std.specs.List.{AllByRecursion}
 
 -- the value of a digit by its code: 0 to 9, A to F, a to f
 abbrev pub digit_value : ℕ → Option ℕ
@@ -40,7 +40,7 @@ capital_digits (x ∷ xs) = capital_digit (x / 16) ∷ capital_digit (x % 16) �
 
 -- each number of the list is an octet
 abbrev pub Octets : List ℕ → Type 0
-Octets xs = All (λ x. x < 256) xs
+Octets xs = AllByRecursion (λ x. x < 256) xs
 
 -- the law that ties both ways: octets in capital digits read back as the same octets
 abbrev pub CapitalsReadBack : Type 0

@@ -1,6 +1,6 @@
 -- A record whose entries are right so far, entry by entry. Assumes nothing.
 use Rattle.std.proofs.Common.{◌≡◌, ℕ, ◌+◌, ◌-◌, ◌*◌, ◌%◌, ◌^◌, ◌<◌, ◌≤◌, Bool, List, [], ◌∷◌, ◌++◌, length, get_or, take, drop, sym, refl, ap, ◌∙◌, subst, ap₂, zero-add, arith, take-add}
-use Rattle.std.specs.List.{flat_map, AllByRecursion as All}
+use Rattle.std.specs.List.{flat_map, AllByRecursion}
 use Rattle.std.proofs.lemmas.List.FromFn.{length-map-range_with_len, take-map-range_with_len, map-range_with_len_more}
 use Rattle.std.proofs.ByRecursion.{All-push}
 use Rattle.std.proofs.lemmas.List.{append-nil, length-drop, length-take-le, drop-drop, get_or-drop, take-append-drop, take_all}
@@ -15,7 +15,7 @@ pub record LaidTo (octets : List ℕ) (i place : ℕ) : Type 0 where
   pub within : place ≤ told_place octets
   pub symbols : take place octets ≡ flat_map packed (first_segments octets i)
   pub table : take (8 * i) (drop (told_place octets) octets) ≡ entries 0 (first_segments octets i)
-  pub some : All (λ segment. 0 < length segment) (first_segments octets i)
+  pub some : AllByRecursion (λ segment. 0 < length segment) (first_segments octets i)
 
 pub laid_none : (octets : List ℕ) → LaidTo octets 0 0
 laid_none octets = record { within = omega arith; symbols = refl; table = refl; some = tt }
@@ -86,7 +86,7 @@ module _ (octets : List ℕ) (fits : (k : ℕ) → get_or octets k 0 < 256) (end
           within = right.within;
           symbols = more_symbols;
           table = more_table;
-          some = subst (All (λ segment. 0 < length segment)) (sym more_segments) (All-push (λ segment. 0 < length segment) before (told_segment octets i) laid.some (omega (arith, size, right.some)));
+          some = subst (AllByRecursion (λ segment. 0 < length segment)) (sym more_segments) (All-push (λ segment. 0 < length segment) before (told_segment octets i) laid.some (omega (arith, size, right.some)));
         }
 
   -- where all entries are right and the segments end at the first entry, the octets are the record

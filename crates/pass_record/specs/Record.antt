@@ -1,6 +1,6 @@
 -- A pass record: the octets that hold given segments of received symbols. Assumes nothing.
 use Rattle.std.specs.Prelude.{◌≡◌, ℕ, ◌+◌, ◌*◌, ◌/◌, ◌%◌, ◌^◌, ◌<◌, ◌≤◌, Bool, false, cond, List, [], ◌∷◌, ◌++◌, map, length, drop, slice_index_or}
-use Rattle.std.specs.List.{range_with_len, flat_map, AllByRecursion as All}
+use Rattle.std.specs.List.{range_with_len, flat_map, AllByRecursion}
 
 -- a symbol with its weight in an octet; past the last symbol the bits are zero
 abbrev pub weighed : ℕ → List Bool → ℕ → ℕ
@@ -41,7 +41,7 @@ record_of segments =
 pub record IsRecord (octets : List ℕ) (segments : List (List Bool)) : Type 0 where
   pub layout : octets ≡ record_of segments
   pub most : length octets ≤ 65535
-  pub some : All (λ segment. 0 < length segment) segments
+  pub some : AllByRecursion (λ segment. 0 < length segment) segments
 
 -- octets are the record of one list of segments only
 abbrev pub OneListOfSegments : List ℕ → Type 0

@@ -1,7 +1,7 @@
 -- Octets with the sequence added: how many, which at each place, what adding it again gives, and that each is below 256. Assumes nothing.
 use Rattle.std.proofs.Common.{◌≡◌, ℕ, zero, suc, ◌+◌, ◌-◌, ◌<◌, List, [], ◌∷◌, length, get_or, refl, ap, ap₂, ⊎_elim, le_of_suc-le-suc, not-suc-le-zero, add-zero, add-suc, mod-lt, suc-add, arith, lit<}
 use lib.Bits.{bit_xor, xor_assoc, xor_self, xor_zero_r, xor_lt}
-use Rattle.std.specs.List.{AllByRecursion as All}
+use Rattle.std.specs.List.{AllByRecursion}
 use Rattle.std.proofs.lemmas.Bool.{cases_lt}
 use Rattle.randomizer.specs.declared.Randomizer.{Randomizer}
 use Rattle.randomizer.specs.declared.Randomizer.TheVariants.{On, Off}
@@ -44,6 +44,6 @@ pub added_at_lt : (r : Randomizer) (place : ℕ) → added_at r place < 256
 added_at_lt On place = sequence_octet_lt place
 added_at_lt Off place = lit< tt
 
-pub octets_stay_octets : (r : Randomizer) (p : ℕ) (xs : List ℕ) → All (λ x. x < 256) xs → All (λ x. x < 256) (randomized_from r p xs)
+pub octets_stay_octets : (r : Randomizer) (p : ℕ) (xs : List ℕ) → AllByRecursion (λ x. x < 256) xs → AllByRecursion (λ x. x < 256) (randomized_from r p xs)
 octets_stay_octets r p [] octets = tt
 octets_stay_octets r p (x ∷ xs) (octet, octets) = (xor_lt 8 x (added_at r p) octet (added_at_lt r p), octets_stay_octets r (suc p) xs octets)

@@ -6,7 +6,7 @@ ghost use Rattle.std.specs.Option.{option_to_list};
 ghost use Rattle.hold.specs.Candidates.{oldest_length, oldest_octet, copy_answer, after_copy};
 ghost use Rattle.reception.specs.Rules.{added, room, made, symbol, SEARCH, quietly, at_symbol};
 ghost use Rattle.reception.specs.Calls.{call_up, call_down, symbol_events, call_release, refusal, event_refusal, answered};
-ghost use Rattle.reception.specs.Promise.{Promise};
+ghost use Rattle.reception.specs.Promise.{ReceiverPromise};
 ghost use Rattle.searching.specs.Symbols.{decisions};
 ghost use Rattle.decoding.specs.Meaning.{rules_of, held_in};
 ghost use Rattle.decoding.specs.Outcomes.{phase_in, outcome_as};
@@ -41,7 +41,7 @@ pub enum ReceiverState {
 
 // The promise of every receiver with these settings over a hold of this kind.
 fn promised<H: Hold>(settings: Settings)
-    ensures { Promise (rules_of settings) H.Hold.showing }
+    ensures { ReceiverPromise (rules_of settings) H.Hold.showing }
 {}
 
 // A symbol in SEARCH, with this window so far.
@@ -74,7 +74,7 @@ impl<H: Hold> Receiver<H> {
         ensures came { CameBy H.Hold (held_in H.Hold hold) [] result }
         ensures settings { result.settings ≡ settings }
         ensures lost { result.lost ≡ 0 }
-        ensures promise { Promise (rules_of settings) H.Hold.showing }
+        ensures promise { ReceiverPromise (rules_of settings) H.Hold.showing }
     {
         promised::<H>(settings);
         let mut hold = hold;

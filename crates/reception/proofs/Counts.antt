@@ -1,6 +1,6 @@
 -- What reports tell: corrections are among the codeblocks, and these are within the limit. Assumes nothing.
 use Rattle.std.proofs.Common.{◌≡◌, ℕ, zero, suc, ◌+◌, ◌*◌, ◌≤◌, Bool, true, false, cond, eqb, leb, List, [], ◌∷◌, is_some, Some, None, Option, refl, ap, arith}
-use Rattle.std.specs.List.{AllByRecursion as All}
+use Rattle.std.specs.List.{AllByRecursion}
 use Rattle.std.proofs.ByRecursion.{All-append}
 use Rattle.bch.specs.declared.Verdict.{Verdict}
 use Rattle.bch.specs.declared.Verdict.TheVariants.{Accepted, Rejected}
@@ -30,7 +30,7 @@ CountsRight limit k (goes_on h more) = more ≤ suc k
 
 pub record Right (limit : ℕ) (o : Outcome) : Type 0 where
   pub few : Few o.after.phase o.after.held
-  pub tells : All (TellsRight limit) o.reports
+  pub tells : AllByRecursion (TellsRight limit) o.reports
 
 pub one_more : (k : ℕ) (c : Bool) → k + bit_value c ≤ suc k
 one_more k true = omega arith
@@ -90,7 +90,7 @@ module _ (settings : Settings) (showing : Showing) where
   run_few s (e ∷ es) kept few =
       run_few (at_event settings showing s e).after es (run_keeps settings showing s (e ∷ []) kept) (event_right s.phase s.held e kept few).few
 
-  run_tells : (s : State) (es : List Event) → KeptState L s → Few s.phase s.held → All (TellsRight L) (reports_of settings showing s es)
+  run_tells : (s : State) (es : List Event) → KeptState L s → Few s.phase s.held → AllByRecursion (TellsRight L) (reports_of settings showing s es)
   run_tells s [] kept few = tt
   run_tells s (e ∷ es) kept few =
       let o = event_right s.phase s.held e kept few in

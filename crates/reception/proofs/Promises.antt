@@ -1,7 +1,7 @@
 -- The promise, for every settings and every showing. Assumes nothing.
 use Rattle.hold.specs.Candidates.{Showing}
 use Rattle.reception.specs.Rules.{Settings}
-use Rattle.reception.specs.Promise.{Promise}
+use Rattle.reception.specs.Promise.{Promise, ReceiverPromise}
 use Rattle.reception.proofs.Called.{calls_run_as_their_events}
 use Rattle.reception.proofs.Counts.{corrections_are_among_the_codeblocks, a_candidate_is_open_just_in_decode}
 use Rattle.reception.proofs.Refused.{a_refused_call_changes_nothing}
@@ -13,13 +13,19 @@ use Rattle.reception.proofs.Undamaged.{undamaged_comes_back}
 pub promise : (settings : Settings) (showing : Showing) → Promise settings showing
 promise settings showing =
     record {
-      calls = calls_run_as_their_events settings showing;
       refused = a_refused_call_changes_nothing settings showing;
-      counts = corrections_are_among_the_codeblocks settings showing;
-      opens = a_candidate_is_open_just_in_decode settings showing;
       stays = what_is_finished_stays settings showing;
       back = idle_brings_it_back settings showing;
-      ready = carrier_up_makes_it_ready settings showing;
       received = what_is_sent_then_is_received settings showing;
       undamaged = undamaged_comes_back settings showing;
+    }
+
+pub receiver_promise : (settings : Settings) (showing : Showing) → ReceiverPromise settings showing
+receiver_promise settings showing =
+    record {
+      promise = promise settings showing;
+      calls = calls_run_as_their_events settings showing;
+      counts = corrections_are_among_the_codeblocks settings showing;
+      opens = a_candidate_is_open_just_in_decode settings showing;
+      ready = carrier_up_makes_it_ready settings showing;
     }

@@ -1,7 +1,7 @@
 -- The promise, of a receiver straight from its making over any hold, after every list of events, accepted or refused. Assumes nothing.
 use Rattle.std.specs.Prelude.{◌≡◌, ℕ, ◌+◌, ◌≤◌, Bool, true, false, ◌⊎◌, List, [], ◌∷◌, ◌++◌, map, length, drop, is_some, Some, None, Option}
 use Rattle.std.specs.Int.Digits.{AllBelowBase}
-use Rattle.std.specs.List.{AllByRecursion as All}
+use Rattle.std.specs.List.{AllByRecursion}
 use Rattle.randomizer.specs.declared.Randomizer.{Randomizer}
 use Rattle.randomizer.specs.Sequence.{randomized}
 use Rattle.cltu.specs.Cltu.{codeblocks_for, filled, cltu}
@@ -72,7 +72,7 @@ module _ (settings : Settings) (showing : Showing) where
   CorrectionsAreAmongTheCodeblocks =
       (hold : Held) (earlier later : List Event) →
       let then = after_events settings showing (made hold) earlier in
-      All (λ one. (one.corrections ≤ one.codeblocks) × (one.codeblocks ≤ settings.limit)) (reports_of settings showing then later)
+      AllByRecursion (λ one. (one.corrections ≤ one.codeblocks) × (one.codeblocks ≤ settings.limit)) (reports_of settings showing then later)
 
   -- so that no call that a receiver makes of its hold is refused
   abbrev pub ACandidateIsOpenJustInDecode : Type 0
@@ -168,12 +168,16 @@ module _ (settings : Settings) (showing : Showing) (randomizer : Randomizer) whe
       new_candidates settings showing then later ≡ filled frame ∷ []
 
 pub record Promise (settings : Settings) (showing : Showing) : Type 0 where
-  pub calls : CallsRunAsTheirEvents settings showing
   pub refused : ARefusedCallChangesNothing settings showing
-  pub counts : CorrectionsAreAmongTheCodeblocks settings showing
-  pub opens : ACandidateIsOpenJustInDecode settings showing
   pub stays : WhatIsFinishedStays settings showing
   pub back : IdleBringsItBack settings showing
-  pub ready : CarrierUpMakesItReady settings showing
   pub received : (randomizer : Randomizer) → WhatIsSentThenIsReceived settings showing randomizer
   pub undamaged : (randomizer : Randomizer) → UndamagedComesBack settings showing randomizer
+
+-- the promise of a receiver that is driven by calls, and what else its reports and its state tell
+pub record ReceiverPromise (settings : Settings) (showing : Showing) : Type 0 where
+  pub promise : Promise settings showing
+  pub calls : CallsRunAsTheirEvents settings showing
+  pub counts : CorrectionsAreAmongTheCodeblocks settings showing
+  pub opens : ACandidateIsOpenJustInDecode settings showing
+  pub ready : CarrierUpMakesItReady settings showing
