@@ -13,6 +13,7 @@ use receiver::Receiver;
 use reception::{Reason, Report};
 use ring::{Cell, Ring};
 use searching::Symbol;
+use std::process::ExitCode;
 use std::time::Instant;
 use std::{env, fmt};
 
@@ -736,12 +737,12 @@ fn run(rt: &HostRuntime) -> anyhow::Result<()> {
     }
 }
 
-fn main(rt: HostRuntime) -> anyhow::Result<()> {
+fn main(rt: HostRuntime) -> anyhow::Result<ExitCode> {
     match run(&rt) {
-        Ok(()) => Ok(()),
+        Ok(()) => Ok(ExitCode::SUCCESS),
         Err(e) => {
             eprintln!(rt; "{e}")?;
-            Err(e)
+            Ok(ExitCode::FAILURE)
         }
     }
 }

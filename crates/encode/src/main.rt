@@ -7,6 +7,7 @@ use frame_lines::answer_line;
 use randomizer::Randomizer;
 use std::env;
 use std::io::{BufRead, BufReader};
+use std::process::ExitCode;
 
 const HELP: &str = "\
 encode: writes frames as CLTUs
@@ -97,12 +98,12 @@ fn run(rt: &HostRuntime) -> anyhow::Result<()> {
     }
 }
 
-fn main(rt: HostRuntime) -> anyhow::Result<()> {
+fn main(rt: HostRuntime) -> anyhow::Result<ExitCode> {
     match run(&rt) {
-        Ok(()) => Ok(()),
+        Ok(()) => Ok(ExitCode::SUCCESS),
         Err(e) => {
             eprintln!(rt; "{e}")?;
-            Err(e)
+            Ok(ExitCode::FAILURE)
         }
     }
 }

@@ -5,6 +5,7 @@ use anyhow::anyhow;
 use pass_lines::answer_record;
 use std::env;
 use std::io::Read;
+use std::process::ExitCode;
 
 const HELP: &str = "\
 receive: runs a receiver over a pass record
@@ -80,12 +81,12 @@ fn run(rt: &HostRuntime) -> anyhow::Result<()> {
     }
 }
 
-fn main(rt: HostRuntime) -> anyhow::Result<()> {
+fn main(rt: HostRuntime) -> anyhow::Result<ExitCode> {
     match run(&rt) {
-        Ok(()) => Ok(()),
+        Ok(()) => Ok(ExitCode::SUCCESS),
         Err(e) => {
             eprintln!(rt; "{e}")?;
-            Err(e)
+            Ok(ExitCode::FAILURE)
         }
     }
 }
