@@ -3,7 +3,7 @@
 #![tactic(auto)]
 
 ghost use Rattle.std.specs.Prelude.{◌≡◌, ℕ, ◌*◌, ◌%◌, ◌^◌, ◌<◌, ◌≤◌, [], ◌∷◌, ◌++◌};
-ghost use Rattle.std.specs.Int.Digits.{number_from_digits as number_of_lem};
+ghost use Rattle.std.specs.Int.Digits.{number_from_digits};
 ghost use Rattle.bch.specs.Polynomial.{weight, remainder as remainder_by, DivisionLeavesTheRemainder};
 ghost use Rattle.bch.specs.Codeblock.{generator, complemented, check_bits, codeblock, information_of};
 ghost use Rattle.bch.specs.Reception.{syndrome_polynomial, received, syndrome, place_from, wrong_place, turned, judged, verdict};
@@ -40,7 +40,7 @@ fn octet_remainder(v: u8) -> u8
 // The remainder of X^7 · I(X) by X^7 + X^6 + X^2 + 1: each octet makes of the remainder r that of
 // X^8 · r(X) + X^7 · v(X), and that is X^7 times a polynomial of eight coefficients.
 fn information_remainder(information: &[u8; 7]) -> u8
-    ensures value { result ≡ remainder_by generator 7 (2 ^ 7 * number_of_lem 256 information.now) }
+    ensures value { result ≡ remainder_by generator 7 (2 ^ 7 * number_from_digits 256 information.now) }
     ensures bound { result < 2 ^ 7 }
 {
     let mut remainder: u8 = 0;
@@ -67,7 +67,7 @@ fn with_filler(check: u8) -> u8
 
 // The check bits and the filler.
 fn check_octet(information: &[u8; 7]) -> u8
-    ensures { result ≡ 2 * check_bits (number_of_lem 256 information.now) }
+    ensures { result ≡ 2 * check_bits (number_from_digits 256 information.now) }
 {
     with_filler(complemented(information_remainder(information)))
 }
