@@ -19,11 +19,6 @@ are_among : (o : Option Candidate) (k n : ℕ) → IsOpen o → k ≤ n → (is_
 are_among None k n is le = absurd is
 are_among (Some candidate) k n is le = le-leb k n le
 
-pub same_few : (p : Phase) (h g : Held) → h.opened ≡ g.opened → few_corrections p h ≡ few_corrections p g
-same_few INACTIVE h g e = refl
-same_few (SEARCH count window) h g e = refl
-same_few (DECODE count word k) h g e = ap (λ (o : Option Candidate). few_corrections (DECODE count word k) (record { capacity = 0; finished = h.finished; opened = o })) e
-
 are_few : (p : Phase) (h : Held) → Among p h → few_corrections p h ≡ true
 are_few INACTIVE h among = refl
 are_few (SEARCH count window) h among = refl
@@ -44,7 +39,7 @@ told_same (DECODE count word k) h few most =
     let is = among h.opened k (added h) few in
     ap (λ n. DECODE count word n) (omega (arith, is.1))
 
-pub told_as_it_is : (o : Outcome) → few_corrections o.after.phase o.after.held ≡ true → added o.after.held ≤ 65535 → told_outcome o ≡ o
+told_as_it_is : (o : Outcome) → few_corrections o.after.phase o.after.held ≡ true → added o.after.held ≤ 65535 → told_outcome o ≡ o
 told_as_it_is o few most = ap (λ (p : Phase). record { after = state p o.after.held; reports = o.reports }) (told_same o.after.phase o.after.held few most)
 
 -- what a symbol in DECODE made of a candidate, as it was told, is what the rules make of it

@@ -12,7 +12,8 @@ phase_of Inactive = INACTIVE
 phase_of (Search window) = SEARCH window.count window.bits
 phase_of (Decode decoding) = phase_in decoding
 
--- in DECODE a candidate is open, and at most as many codeblocks were corrected as it has
+-- in DECODE a candidate is open, and at most as many codeblocks were corrected as it has; as a test, since an invariant of a
+-- type may have no more than one proof
 abbrev pub few_corrections : Phase → Held → Bool
 few_corrections INACTIVE h = true
 few_corrections (SEARCH count window) h = true

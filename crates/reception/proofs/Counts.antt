@@ -14,7 +14,7 @@ use Rattle.reception.specs.Promise.{is_decode, CorrectionsAreAmongTheCodeblocks,
 use Rattle.reception.proofs.Decoding.{IsOpen, GoesRight, codeblock_goes_right}
 use Rattle.reception.proofs.Kept.{Kept, KeptState, run_keeps}
 
-abbrev TellsRight : ℕ → Report → Type 0
+abbrev pub TellsRight : ℕ → Report → Type 0
 TellsRight limit one = (one.corrections ≤ one.codeblocks) × (one.codeblocks ≤ limit)
 
 -- at most as many corrections as codeblocks
@@ -24,7 +24,7 @@ Few (SEARCH count window) h = Unit {0}
 Few (DECODE count word corrections) h = corrections ≤ added h
 
 -- at most one correction more, or a report that tells right
-abbrev CountsRight : (limit k : ℕ) → Decoded → Type 0
+abbrev pub CountsRight : (limit k : ℕ) → Decoded → Type 0
 CountsRight limit k (ends h one) = TellsRight limit one
 CountsRight limit k (goes_on h more) = more ≤ suc k
 
@@ -32,7 +32,7 @@ pub record Right (limit : ℕ) (o : Outcome) : Type 0 where
   pub few : Few o.after.phase o.after.held
   pub tells : AllByRecursion (TellsRight limit) o.reports
 
-pub one_more : (k : ℕ) (c : Bool) → k + bit_value c ≤ suc k
+one_more : (k : ℕ) (c : Bool) → k + bit_value c ≤ suc k
 one_more k true = omega arith
 one_more k false = omega arith
 
@@ -40,22 +40,23 @@ module _ (settings : Settings) (showing : Showing) where
   abbrev L : ℕ
   L = settings.limit
 
-  closing_counts : (h : Held) (n k : ℕ) → k ≤ n → n ≤ L → CountsRight L k (closing h n k)
-  closing_counts h zero k few within = (few, within)
-  closing_counts h (suc n) k few within = (few, within)
+  -- up to any bound that the codeblocks are within
+  closing_counts : (bound : ℕ) (h : Held) (n k : ℕ) → k ≤ n → n ≤ bound → CountsRight bound k (closing h n k)
+  closing_counts bound h zero k few within = (few, within)
+  closing_counts bound h (suc n) k few within = (few, within)
 
-  counting_counts : (h : Held) (k : ℕ) (octets : List ℕ) (c : Bool) → k ≤ added h → added h ≤ L → CountsRight L k (counting_in settings showing h k octets c)
-  counting_counts h k octets c few within = by (leb L (added h)) (eqb (room h) 0)
+  counting_counts : (bound : ℕ) (h : Held) (k : ℕ) (octets : List ℕ) (c : Bool) → k ≤ added h → added h ≤ bound → CountsRight bound k (counting_in settings showing h k octets c)
+  counting_counts bound h k octets c few within = by (leb L (added h)) (eqb (room h) 0)
     where
       by : (many full : Bool) →
-          CountsRight L k (cond many (ends (abandoning h) (report Long (added h) k)) (cond full (ends (abandoning h) (report Full (added h) k)) (goes_on (adding showing h octets) (k + bit_value c))))
+          CountsRight bound k (cond many (ends (abandoning h) (report Long (added h) k)) (cond full (ends (abandoning h) (report Full (added h) k)) (goes_on (adding showing h octets) (k + bit_value c))))
       by true full = (few, within)
       by false true = (few, within)
       by false false = one_more k c
 
-  decoded_counts : (h : Held) (k : ℕ) (v : Verdict) → k ≤ added h → added h ≤ L → CountsRight L k (decoded_by settings showing h k v)
-  decoded_counts h k Rejected few within = closing_counts h (added h) k few within
-  decoded_counts h k (Accepted octets c) few within = counting_counts h k octets c few within
+  pub decoded_counts : (bound : ℕ) (h : Held) (k : ℕ) (v : Verdict) → k ≤ added h → added h ≤ bound → CountsRight bound k (decoded_by settings showing h k v)
+  decoded_counts bound h k Rejected few within = closing_counts bound h (added h) k few within
+  decoded_counts bound h k (Accepted octets c) few within = counting_counts bound h k octets c few within
 
   codeblock_right : (h : Held) (k : ℕ) (d : Decoded) → k ≤ added h → GoesRight L (added h) d → CountsRight L k d → Right L (at_codeblock d)
   codeblock_right h k (ends g one) few right counts = record { few = tt; tells = (counts, tt) }
@@ -64,7 +65,7 @@ module _ (settings : Settings) (showing : Showing) where
   word_right : (h : Held) (count word k : ℕ) → Kept L (DECODE count word k) h → k ≤ added h → (b whole : Bool) → Right L (at_word settings showing h (suc count) (2 * word + bit_value b) k whole)
   word_right h count word k kept few b true =
       codeblock_right h k (decoded settings showing h k (2 * word + bit_value b)) few (codeblock_goes_right settings showing h k (2 * word + bit_value b) kept.0)
-      (decoded_counts h k (verdict settings.mode (2 * word + bit_value b)) few kept.1)
+      (decoded_counts L h k (verdict settings.mode (2 * word + bit_value b)) few kept.1)
   word_right h count word k kept few b false = record { few = few; tells = tt }
 
   window_right : (h : Held) (count window : ℕ) (found : Bool) → Right L (at_window h count window found)
