@@ -5,10 +5,9 @@ use Rattle.std.specs.Int.Digits.{number_from_digits}
 use Rattle.std.proofs.lemmas.Int.Digits.{number_push}
 use Rattle.bch.specs.declared.Mode.{Mode}
 use Rattle.bch.specs.declared.Mode.TheVariants.{Detecting, Correcting}
-use Rattle.bch.specs.declared.Verdict.TheVariants.{Accepted, Rejected}
 use Rattle.bch.specs.Polynomial.{◌⊕◌, weight, remainder}
 use Rattle.bch.specs.Codeblock.{check_bits, Information, sent, information_of}
-use Rattle.bch.specs.Reception.{syndrome_polynomial, power_remainder, wrong_place, turned, corrected, judged, verdict, wrong_bits}
+use Rattle.bch.specs.Reception.{syndrome_polynomial, power_remainder, wrong_place, turned, accepted, rejected, corrected, judged, verdict, wrong_bits}
 use Rattle.bch.specs.Laws.{UndamagedIsAccepted, OneWrongBitIsCorrected, TwoWrongBitsAreRejected, OneOrThreeWrongBitsAreDetected}
 use Rattle.bch.proofs.Sums.{added_twice, equal_from_sum}
 use Rattle.bch.proofs.Division.{divided_sum, divided_zero}
@@ -20,7 +19,7 @@ use Rattle.bch.proofs.Syndromes.{information_below, check_bits_below, parity_of_
 half_power : (d : ℕ) → 2 ^ d ≡ 2 ^ suc d / 2
 half_power d = omega (arith, pow-suc 2 d)
 
-number_rejected : (mode : Mode) (word n : ℕ) → n ≢ 0 → judged mode word 0 n ≡ Rejected
+number_rejected : (mode : Mode) (word n : ℕ) → n ≢ 0 → judged mode word 0 n ≡ rejected
 number_rejected mode word zero ne = absurd (ne refl)
 number_rejected mode word (suc n) ne = refl
 
@@ -49,21 +48,21 @@ module _ (information : List ℕ) (h : Information information) (word : ℕ) (w 
   with_pattern : sent information / 2 ≡ word / 2 ⊕ e
   with_pattern = sym (added_twice (sent information / 2) (word / 2)) ∙ ap (λ x. x ⊕ word / 2) (sym (xor_shr (sent information) word 1)) ∙ xor_comm e (word / 2)
 
-  pub undamaged : (mode : Mode) → wrong_bits (sent information) word ≡ 0 → verdict mode word ≡ Accepted information false
+  pub undamaged : (mode : Mode) → wrong_bits (sent information) word ≡ 0 → verdict mode word ≡ accepted information false
   undamaged mode none =
       let zero_pattern : e ≡ 0 = weight_none 63 e below none in
       by_pattern mode 0 0 (ap (λ x. x % 2) none) (ap (remainder syndrome_polynomial 6) zero_pattern ∙ divided_zero syndrome_polynomial 6 64)
-      ∙ ap (λ x. Accepted x false) (information_same word (with_pattern ∙ ap (λ x. word / 2 ⊕ x) zero_pattern ∙ xor_zero_r (word / 2)))
+      ∙ ap (λ x. accepted x false) (information_same word (with_pattern ∙ ap (λ x. word / 2 ⊕ x) zero_pattern ∙ xor_zero_r (word / 2)))
 
-  pub one_corrected : wrong_bits (sent information) word ≡ 1 → verdict Correcting word ≡ Accepted information true
+  pub one_corrected : wrong_bits (sent information) word ≡ 1 → verdict Correcting word ≡ accepted information true
   one_corrected one =
       let at = weight_one 63 e below one in
       let d = at.0 in
       by_pattern Correcting 1 (power_remainder d) (ap (λ x. x % 2) one) (ap (remainder syndrome_polynomial 6) at.2)
       ∙ ap (corrected word) (place_of_power d at.1)
-      ∙ ap (λ x. Accepted x true) (information_same (turned d word) (with_pattern ∙ ap (λ x. word / 2 ⊕ x) (at.2 ∙ half_power d) ∙ sym (xor_shr word (2 ^ suc d) 1)))
+      ∙ ap (λ x. accepted x true) (information_same (turned d word) (with_pattern ∙ ap (λ x. word / 2 ⊕ x) (at.2 ∙ half_power d) ∙ sym (xor_shr word (2 ^ suc d) 1)))
 
-  pub two_rejected : (mode : Mode) → wrong_bits (sent information) word ≡ 2 → verdict mode word ≡ Rejected
+  pub two_rejected : (mode : Mode) → wrong_bits (sent information) word ≡ 2 → verdict mode word ≡ rejected
   two_rejected mode two =
       let at = weight_two 63 e below two in
       let d = at.0 in
@@ -73,7 +72,7 @@ module _ (information : List ℕ) (h : Information information) (word : ℕ) (w 
       ∙ number_rejected mode word n
       (λ none. at.4 (same_some d f (sym (place_of_power d at.2) ∙ ap wrong_place (equal_from_sum (power_remainder d) (power_remainder f) none) ∙ place_of_power f at.3)))
 
-  pub odd_detected : weight 63 e % 2 ≡ 1 → verdict Detecting word ≡ Rejected
+  pub odd_detected : weight 63 e % 2 ≡ 1 → verdict Detecting word ≡ rejected
   odd_detected odd = by_pattern Detecting 1 (remainder syndrome_polynomial 6 e) odd refl
 
 pub undamaged_is_accepted : (mode : Mode) (word : ℕ) → word < 2 ^ 64 → UndamagedIsAccepted word (verdict mode word)

@@ -3,10 +3,9 @@
 use Rattle.std.specs.Prelude.{◌≡◌, ℕ, ◌<◌, true, false, ◌≢◌, ◌⊎◌, List, is_some, Some, None, Option, nat_lt}
 use Rattle.bch.specs.declared.Mode.{Mode}
 use Rattle.bch.specs.declared.Mode.TheVariants.{Detecting, Correcting}
-use Rattle.bch.specs.declared.Verdict.{Verdict}
-use Rattle.bch.specs.declared.Verdict.TheVariants.{Accepted, Rejected}
+use Rattle.bch.specs.declared.Accepted.{Accepted}
 use Rattle.bch.specs.Codeblock.{Information, sent}
-use Rattle.bch.specs.Reception.{power_remainder, wrong_bits}
+use Rattle.bch.specs.Reception.{power_remainder, wrong_bits, accepted, rejected}
 
 -- what a wrong place is: the power of X there, and no other below X^63, has the remainder n
 abbrev pub IsTheWrongPlace : ℕ → Option ℕ → Type 0
@@ -17,22 +16,22 @@ IsTheWrongPlace n (Some d) = (d < 63) × (power_remainder d ≡ n) × ((e : ℕ)
 abbrev pub AbsentOnlyAtZero : ℕ → Option ℕ → Type 0
 AbsentOnlyAtZero n place = n < 64 → is_some place ≡ nat_lt 0 n
 
-abbrev pub UndamagedIsAccepted : ℕ → Verdict → Type 0
+abbrev pub UndamagedIsAccepted : ℕ → Option Accepted → Type 0
 UndamagedIsAccepted word answer =
-    (information : List ℕ) → Information information → wrong_bits (sent information) word ≡ 0 → answer ≡ Accepted information false
+    (information : List ℕ) → Information information → wrong_bits (sent information) word ≡ 0 → answer ≡ accepted information false
 
-abbrev pub OneWrongBitIsCorrected : Mode → ℕ → Verdict → Type 0
+abbrev pub OneWrongBitIsCorrected : Mode → ℕ → Option Accepted → Type 0
 OneWrongBitIsCorrected mode word answer =
-    (information : List ℕ) → Information information → mode ≡ Correcting → wrong_bits (sent information) word ≡ 1 → answer ≡ Accepted information true
+    (information : List ℕ) → Information information → mode ≡ Correcting → wrong_bits (sent information) word ≡ 1 → answer ≡ accepted information true
 
-abbrev pub TwoWrongBitsAreRejected : ℕ → Verdict → Type 0
+abbrev pub TwoWrongBitsAreRejected : ℕ → Option Accepted → Type 0
 TwoWrongBitsAreRejected word answer =
-    (information : List ℕ) → Information information → wrong_bits (sent information) word ≡ 2 → answer ≡ Rejected
+    (information : List ℕ) → Information information → wrong_bits (sent information) word ≡ 2 → answer ≡ rejected
 
-abbrev pub OneOrThreeWrongBitsAreDetected : Mode → ℕ → Verdict → Type 0
+abbrev pub OneOrThreeWrongBitsAreDetected : Mode → ℕ → Option Accepted → Type 0
 OneOrThreeWrongBitsAreDetected mode word answer =
     (information : List ℕ)
     → Information information
     → mode ≡ Detecting
     → (wrong_bits (sent information) word ≡ 1) ⊎ (wrong_bits (sent information) word ≡ 3)
-    → answer ≡ Rejected
+    → answer ≡ rejected

@@ -1,10 +1,9 @@
 -- What is made of 64 received bits, and what the code promises of wrong bits. A word of 64 bits is a number, the first bit the highest.
 -- Assumes nothing.
-use Rattle.std.specs.Prelude.{ℕ, zero, suc, ◌/◌, ◌%◌, ◌^◌, true, false, cond, Some, None, Option, ◌==◌}
+use Rattle.std.specs.Prelude.{ℕ, Bool, List, zero, suc, ◌/◌, ◌%◌, ◌^◌, true, false, cond, Some, None, Option, ◌==◌}
 use Rattle.bch.specs.declared.Mode.{Mode}
 use Rattle.bch.specs.declared.Mode.TheVariants.{Detecting, Correcting}
-use Rattle.bch.specs.declared.Verdict.{Verdict}
-use Rattle.bch.specs.declared.Verdict.TheVariants.{Accepted, Rejected}
+use Rattle.bch.specs.declared.Accepted.{Accepted}
 use Rattle.bch.specs.Polynomial.{◌⊕◌, weight, remainder}
 use Rattle.bch.specs.Codeblock.{complemented, information_of}
 
@@ -37,19 +36,26 @@ wrong_place n = place_from 0 63 n
 abbrev pub turned : ℕ → ℕ → ℕ
 turned d word = word ⊕ 2 ^ suc d
 
+-- the verdict on a word: what is accepted of it, and whether a bit was turned for that; or that it is rejected
+abbrev pub accepted : List ℕ → Bool → Option Accepted
+accepted information corrected = Some (record { information = information; corrected = corrected })
+
+abbrev pub rejected : Option Accepted
+rejected = None
+
 -- correcting, at parity 1: the bit at the wrong place is turned, if there is one
-abbrev pub corrected : ℕ → Option ℕ → Verdict
-corrected word None = Rejected
-corrected word (Some d) = Accepted (information_of (turned d word)) true
+abbrev pub corrected : ℕ → Option ℕ → Option Accepted
+corrected word None = rejected
+corrected word (Some d) = accepted (information_of (turned d word)) true
 
 -- by mode, parity and number
-abbrev pub judged : Mode → ℕ → ℕ → ℕ → Verdict
-judged mode word zero zero = Accepted (information_of word) false
-judged mode word zero (suc n) = Rejected
-judged Detecting word (suc p) n = Rejected
+abbrev pub judged : Mode → ℕ → ℕ → ℕ → Option Accepted
+judged mode word zero zero = accepted (information_of word) false
+judged mode word zero (suc n) = rejected
+judged Detecting word (suc p) n = rejected
 judged Correcting word (suc p) n = corrected word (wrong_place n)
 
-abbrev pub verdict : Mode → ℕ → Verdict
+abbrev pub verdict : Mode → ℕ → Option Accepted
 verdict mode word = judged mode word (syndrome word).0 (syndrome word).1
 
 -- in how many of their first 63 bits two words differ

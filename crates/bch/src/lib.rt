@@ -12,16 +12,11 @@ pub enum Mode {
     Correcting,
 }
 
-/// What is made of 64 received bits.
+/// What is accepted of 64 received bits. Where they are rejected there is none.
 #[derive(Clone, Copy, Debug, PartialEq, Eq)]
-pub enum Verdict {
-    /// A codeblock.
-    Accepted {
-        /// Its seven octets of information.
-        information: [u8; 7],
-        /// Whether a bit was turned, also one of the check bits.
-        corrected: bool,
-    },
-    /// No codeblock: the end of a candidate.
-    Rejected,
+pub struct Accepted {
+    /// The seven octets of information.
+    pub information: [u8; 7],
+    /// Whether a bit was turned, also one of the check bits.
+    pub corrected: bool,
 }

@@ -2,15 +2,17 @@
 //! 64 bits, the first bit received its highest.
 #![tactic(auto)]
 
-ghost use Rattle.std.specs.Prelude.{◌≡◌, ℕ, ◌*◌, ◌%◌, ◌^◌, ◌<◌, ◌≤◌, [], ◌∷◌, ◌++◌};
+ghost use Rattle.std.specs.Prelude.{◌≡◌, ◌*◌, ◌/◌, ◌%◌, ◌^◌, ◌<◌, ◌≤◌, Some, [], ◌∷◌, ◌++◌};
 ghost use Rattle.std.specs.Int.Digits.{number_from_digits};
-ghost use Rattle.bch.specs.Polynomial.{weight, remainder as remainder_by, DivisionLeavesTheRemainder};
-ghost use Rattle.bch.specs.Codeblock.{generator, complemented, check_bits, codeblock, information_of};
-ghost use Rattle.bch.specs.Reception.{syndrome_polynomial, received, syndrome, place_from, wrong_place, turned, judged, verdict};
+ghost use Rattle.bch.specs.Polynomial.{remainder as remainder_by, DivisionLeavesTheRemainder};
+ghost use Rattle.bch.specs.Codeblock.{generator, check_bits, codeblock, information_of};
+ghost use Rattle.bch.specs.Reception.{syndrome_polynomial, received, syndrome, place_from, wrong_place, turned, accepted, judged, verdict};
 ghost use Rattle.bch.specs.Laws.{IsTheWrongPlace, AbsentOnlyAtZero, UndamagedIsAccepted, OneWrongBitIsCorrected, TwoWrongBitsAreRejected, OneOrThreeWrongBitsAreDetected};
-ghost use Rattle.bch.specs.declared.Verdict.TheVariants.{Accepted};
 
-use bch::{Mode, Verdict};
+use bch::{Accepted, Mode};
+use coefficients::Coefficients;
+
+mod coefficients;
 
 // The remainder of X^7 · v(X) by X^7 + X^6 + X^2 + 1, for each octet v.
 const REMAINDERS: [u8; 256] = *b"\
@@ -39,44 +41,30 @@ fn octet_remainder(v: u8) -> u8
 
 // The remainder of X^7 · I(X) by X^7 + X^6 + X^2 + 1: each octet makes of the remainder r that of
 // X^8 · r(X) + X^7 · v(X), and that is X^7 times a polynomial of eight coefficients.
-fn information_remainder(information: &[u8; 7]) -> u8
-    ensures value { result ≡ remainder_by generator 7 (2 ^ 7 * number_from_digits 256 information.now) }
-    ensures bound { result < 2 ^ 7 }
+fn information_remainder(information: &[u8; 7]) -> Coefficients
+    ensures { result.bits ≡ remainder_by generator 7 (2 ^ 7 * number_from_digits 256 information.now) }
 {
-    let mut remainder: u8 = 0;
+    let mut bits: u8 = 0;
     for octet in information {
-        remainder = octet_remainder((remainder << 1) ^ *octet);
+        bits = octet_remainder((bits << 1) ^ *octet);
     }
-    remainder
-}
-
-fn complemented(bits: u8) -> u8
-    requires { bits < 2 ^ 7 }
-    ensures value { result ≡ complemented bits }
-    ensures bound { result < 2 ^ 7 }
-{
-    bits ^ 0x7F
-}
-
-fn with_filler(check: u8) -> u8
-    requires { check < 2 ^ 7 }
-    ensures { result ≡ 2 * check }
-{
-    check << 1
+    Coefficients { bits }
 }
 
 // The check bits and the filler.
 fn check_octet(information: &[u8; 7]) -> u8
     ensures { result ≡ 2 * check_bits (number_from_digits 256 information.now) }
 {
-    with_filler(complemented(information_remainder(information)))
+    let remainder = information_remainder(information);
+    remainder.complemented().with_filler()
 }
 
 fn followed_by(information: [u8; 7], last: u8) -> [u8; 8]
     ensures { result ≡ information ++ last ∷ [] }
 {
-    let [a, b, c, d, e, f, g] = information;
-    [a, b, c, d, e, f, g, last]
+    let mut octets = [last; 8];
+    octets[..7].copy_from_slice(&information);
+    octets
 }
 
 /// The codeblock of seven octets of information: these, and an octet of seven check bits and the
@@ -87,37 +75,33 @@ pub fn codeblock(information: [u8; 7]) -> [u8; 8]
     followed_by(information, check_octet(&information))
 }
 
+// The first seven octets of a received word. `[information @ .., _]` gets no proof at an array.
+fn information_in(word: u64) -> [u8; 7]
+    ensures { result ≡ information_of word }
+{
+    let [a, b, c, d, e, f, g, _] = word.to_be_bytes();
+    [a, b, c, d, e, f, g]
+}
+
+// The check bits of a received word, which stand before its last bit.
+fn check_in(word: u64) -> Coefficients
+    ensures { result.bits ≡ word % 256 / 2 }
+{
+    Coefficients {
+        bits: ((word & 0xFF) >> 1) as u8,
+    }
+}
+
 // The remainder by the generator of the received polynomial: that of its information, with the
 // check bits added as they were sent.
-fn received_remainder(word: u64) -> u8
-    ensures value { result ≡ remainder_by generator 7 (received word) }
-    ensures bound { result < 2 ^ 7 }
+fn received_remainder(word: u64) -> Coefficients
+    ensures value { result.bits ≡ remainder_by generator 7 (received word) }
     ensures degree { received word < 2 ^ 63 }
     ensures division { DivisionLeavesTheRemainder }
 {
-    let [a, b, c, d, e, f, g, check] = word.to_be_bytes();
-    complemented(information_remainder(&[a, b, c, d, e, f, g]) ^ (check >> 1))
-}
-
-// The parity of every polynomial that has this remainder by the generator, which has X + 1 as a factor.
-fn parity(remainder: u8) -> u8
-    ensures { (p : ℕ) → p < 2 ^ 63 → remainder ≡ remainder_by generator 7 p → result ≡ weight 63 p % 2 }
-{
-    (remainder.count_ones() & 1) as u8
-}
-
-// The remainder by X^6 + X + 1 of a polynomial of seven coefficients, and so of every one that has
-// this remainder by the generator, of which X^6 + X + 1 is a factor.
-fn reduced(remainder: u8) -> u8
-    requires { remainder < 2 ^ 7 }
-    ensures value { result ≡ remainder_by syndrome_polynomial 6 remainder }
-    ensures number { (p : ℕ) → p < 2 ^ 63 → remainder ≡ remainder_by generator 7 p → result ≡ remainder_by syndrome_polynomial 6 p }
-{
-    if remainder < 0x40 {
-        remainder
-    } else {
-        remainder ^ 0x43
-    }
+    information_remainder(&information_in(word))
+        .plus(check_in(word))
+        .complemented()
 }
 
 /// The syndrome of the first 63 bits: their parity, with the check bits complemented, and their
@@ -127,7 +111,7 @@ pub fn syndrome(word: u64) -> (u8, u8)
     ensures division { DivisionLeavesTheRemainder }
 {
     let remainder = received_remainder(word);
-    (parity(remainder), reduced(remainder))
+    (remainder.parity(), remainder.reduced())
 }
 
 // The first of the lowest degrees whose power of X has this remainder by X^6 + X + 1.
@@ -142,7 +126,7 @@ fn first_place(number: u8, degrees: u8) -> Option<u8>
         if power == number {
             return Some(degree);
         }
-        power = reduced(power << 1);
+        power = Coefficients { bits: power << 1 }.reduced();
     }
     None
 }
@@ -157,12 +141,11 @@ pub fn wrong_place(number: u8) -> Option<u8>
     first_place(number, 63)
 }
 
-fn accepted(word: u64, corrected: bool) -> Verdict
-    ensures { result ≡ Accepted (information_of word) corrected }
+fn accepted(word: u64, corrected: bool) -> Accepted
+    ensures { Some result ≡ accepted (information_of word) corrected }
 {
-    let [a, b, c, d, e, f, g, _] = word.to_be_bytes();
-    Verdict::Accepted {
-        information: [a, b, c, d, e, f, g],
+    Accepted {
+        information: information_in(word),
         corrected,
     }
 }
@@ -175,23 +158,24 @@ fn turned(word: u64, degree: u8) -> u64
     word ^ (2 << degree)
 }
 
-fn judged(mode: Mode, word: u64, parity: u8, number: u8) -> Verdict
+fn judged(mode: Mode, word: u64, parity: u8, number: u8) -> Option<Accepted>
     requires { parity < 2 }
     ensures { result ≡ judged mode word parity number }
 {
     match (mode, parity, number) {
-        (_, 0, 0) => accepted(word, false),
-        (Mode::Correcting, 1, _) => match wrong_place(number) {
-            Some(degree) => accepted(turned(word, degree), true),
-            None => Verdict::Rejected,
-        },
-        _ => Verdict::Rejected,
+        (_, 0, 0) => Some(accepted(word, false)),
+        (Mode::Correcting, 1, _) => {
+            let degree = wrong_place(number)?;
+            Some(accepted(turned(word, degree), true))
+        }
+        _ => None,
     }
 }
 
-/// The verdict on 64 received bits. Detecting accepts parity 0 with number 0; correcting accepts
-/// that too, and parity 1 with a wrong place, after turning the bit there. The filler decides nothing.
-pub fn judge(mode: Mode, word: u64) -> Verdict
+/// The verdict on 64 received bits: what is accepted of them, or none where they are rejected. Detecting
+/// accepts parity 0 with number 0; correcting accepts that too, and parity 1 with a wrong place, after
+/// turning the bit there. The filler decides nothing.
+pub fn judge(mode: Mode, word: u64) -> Option<Accepted>
     ensures value { result ≡ verdict mode word }
     ensures undamaged { UndamagedIsAccepted word result }
     ensures one_wrong_bit { OneWrongBitIsCorrected mode word result }

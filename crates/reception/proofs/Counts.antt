@@ -2,8 +2,7 @@
 use Rattle.std.proofs.Common.{◌≡◌, ℕ, zero, suc, ◌+◌, ◌*◌, ◌≤◌, Bool, true, false, cond, eqb, leb, List, [], ◌∷◌, is_some, Some, None, Option, refl, ap, arith}
 use Rattle.std.specs.List.{AllByRecursion}
 use Rattle.std.proofs.ByRecursion.{All-append}
-use Rattle.bch.specs.declared.Verdict.{Verdict}
-use Rattle.bch.specs.declared.Verdict.TheVariants.{Accepted, Rejected}
+use Rattle.bch.specs.declared.Accepted.{Accepted}
 use Rattle.bch.specs.Reception.{verdict}
 use Rattle.hold.specs.Candidates.{Candidate, Showing}
 use Rattle.reception.specs.declared.Reason.TheVariants.{Long, Full}
@@ -54,9 +53,9 @@ module _ (settings : Settings) (showing : Showing) where
       by false true = (few, within)
       by false false = one_more k c
 
-  pub decoded_counts : (bound : ℕ) (h : Held) (k : ℕ) (v : Verdict) → k ≤ added h → added h ≤ bound → CountsRight bound k (decoded_by settings showing h k v)
-  decoded_counts bound h k Rejected few within = closing_counts bound h (added h) k few within
-  decoded_counts bound h k (Accepted octets c) few within = counting_counts bound h k octets c few within
+  pub decoded_counts : (bound : ℕ) (h : Held) (k : ℕ) (v : Option Accepted) → k ≤ added h → added h ≤ bound → CountsRight bound k (decoded_by settings showing h k v)
+  decoded_counts bound h k None few within = closing_counts bound h (added h) k few within
+  decoded_counts bound h k (Some x) few within = counting_counts bound h k x.information x.corrected few within
 
   codeblock_right : (h : Held) (k : ℕ) (d : Decoded) → k ≤ added h → GoesRight L (added h) d → CountsRight L k d → Right L (at_codeblock d)
   codeblock_right h k (ends g one) few right counts = record { few = tt; tells = (counts, tt) }

@@ -5,17 +5,16 @@ use Rattle.std.proofs.lemmas.List.{length-append}
 use Rattle.std.proofs.lemmas.Bool.{leb-false}
 use Rattle.bch.specs.declared.Mode.{Mode}
 use Rattle.bch.specs.declared.Mode.TheVariants.{Detecting, Correcting}
-use Rattle.bch.specs.declared.Verdict.{Verdict}
-use Rattle.bch.specs.declared.Verdict.TheVariants.{Accepted, Rejected}
+use Rattle.bch.specs.declared.Accepted.{Accepted}
 use Rattle.bch.specs.Reception.{wrong_place, corrected, judged, syndrome, verdict}
 use Rattle.hold.specs.Candidates.{Candidate, Showing, shown_from, open_codeblocks, free_space, open_after_finish}
 use Rattle.reception.specs.declared.Reason.TheVariants.{Long, Full}
 use Rattle.reception.specs.Rules.{Settings, Held, abandoning, adding, added, bit_value, report, Decoded, goes_on, ends, closing, counting_in, decoded_by, decoded}
 
 -- an accepted codeblock has seven octets
-Seven : Verdict → Type 0
-Seven (Accepted octets corrected) = length octets ≡ 7
-Seven Rejected = Unit {0}
+Seven : Option Accepted → Type 0
+Seven (Some x) = length x.information ≡ 7
+Seven None = Unit {0}
 
 seven_corrected : (word : ℕ) (place : Option ℕ) → Seven (corrected word place)
 unfolding Seven
@@ -73,11 +72,11 @@ module _ (settings : Settings) (showing : Showing) (K : ℕ) (F : List Candidate
           (ap (λ full. cond full (Some candidate) (Some (candidate ++ shown_from showing (length candidate) octets))) (sym f))
           (tt, seven_more (length (candidate ++ shown_from showing (length candidate) octets)) (length candidate) more, leb-false settings.limit (length candidate / 7) e)
 
-  decoded_right : (opened : Option Candidate) (k : ℕ) (v : Verdict) → IsOpen opened → Seven v → GoesRight settings.limit (open_codeblocks opened) (decoded_by settings showing (held K F opened) k v)
+  decoded_right : (opened : Option Candidate) (k : ℕ) (v : Option Accepted) → IsOpen opened → Seven v → GoesRight settings.limit (open_codeblocks opened) (decoded_by settings showing (held K F opened) k v)
   unfolding Seven
   decoded_right None k v o seven = absurd o
-  decoded_right (Some candidate) k Rejected o seven = closing_right (Some candidate) (length candidate / 7) k tt refl
-  decoded_right (Some candidate) k (Accepted octets c) o seven = counting_right candidate k octets c seven
+  decoded_right (Some candidate) k None o seven = closing_right (Some candidate) (length candidate / 7) k tt refl
+  decoded_right (Some candidate) k (Some x) o seven = counting_right candidate k x.information x.corrected seven
 
 pub codeblock_goes_right : (settings : Settings) (showing : Showing) (h : Held) (k word : ℕ) → IsOpen h.opened → GoesRight settings.limit (added h) (decoded settings showing h k word)
 codeblock_goes_right settings showing h k word o =

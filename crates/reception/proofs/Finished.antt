@@ -1,8 +1,7 @@
 -- What is finished stays. Assumes nothing.
 use Rattle.std.proofs.Common.{◌≡◌, ℕ, zero, suc, ◌+◌, ◌*◌, ◌≤◌, Bool, true, false, cond, eqb, leb, List, [], ◌∷◌, ◌++◌, length, drop, Some, None, Option, sym, refl, ap, ◌∙◌, append_assoc, append-nil, arith}
 use Rattle.std.proofs.lemmas.List.{drop-append-le, drop-drop, length-append}
-use Rattle.bch.specs.declared.Verdict.{Verdict}
-use Rattle.bch.specs.declared.Verdict.TheVariants.{Accepted, Rejected}
+use Rattle.bch.specs.declared.Accepted.{Accepted}
 use Rattle.bch.specs.Reception.{verdict}
 use Rattle.hold.specs.Candidates.{Candidate, Showing, open_codeblocks, finished_after_finish, after_release}
 use Rattle.reception.specs.declared.Reason.{Reason}
@@ -50,9 +49,9 @@ module _ (settings : Settings) (showing : Showing) where
       by false true = abandoned h Full (added h) k (λ candidate. refl)
       by false false = nothing_new h
 
-  decoding_adds : (h : Held) (k : ℕ) (v : Verdict) → Adds h (at_codeblock (decoded_by settings showing h k v))
-  decoding_adds h k Rejected = closing_adds h (added h) k refl
-  decoding_adds h k (Accepted octets corrected) = counting_adds h k octets corrected
+  decoding_adds : (h : Held) (k : ℕ) (v : Option Accepted) → Adds h (at_codeblock (decoded_by settings showing h k v))
+  decoding_adds h k None = closing_adds h (added h) k refl
+  decoding_adds h k (Some x) = counting_adds h k x.information x.corrected
 
   symbol_adds : (p : Phase) (h : Held) (b : Bool) → Adds h (at_event settings showing (state p h) (symbol b))
   unfolding Adds

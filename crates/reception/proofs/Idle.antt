@@ -3,9 +3,8 @@ use Rattle.std.proofs.Common.{◌≡◌, ℕ, zero, suc, pred, ◌+◌, ◌-◌,
 use Rattle.std.proofs.lemmas.Bool.{eqb-true, eqb-false, cases_lt, false≢true}
 use Rattle.bch.specs.declared.Mode.{Mode}
 use Rattle.bch.specs.declared.Mode.TheVariants.{Detecting, Correcting}
-use Rattle.bch.specs.declared.Verdict.TheVariants.{Rejected}
 use Rattle.bch.specs.Polynomial.{weight, divided}
-use Rattle.bch.specs.Reception.{place_from, verdict}
+use Rattle.bch.specs.Reception.{place_from, rejected, verdict}
 use Rattle.hold.specs.Candidates.{Showing}
 use Rattle.reception.specs.Rules.{Settings, Held, opening, added, bit_value, next_count, next_window, is_start, Decoded, goes_on, ends, closing, decoded_by, decoded, Phase, INACTIVE, SEARCH, DECODE, State, state, Event, carrier_up, carrier_down, symbol, release, at_window, at_codeblock, at_word, at_event, made}
 use Rattle.reception.specs.Runs.{after_events, symbols_in, CarrierStaysUp, CarrierIsUp, NothingButIdle, Clear, idle, recovery_bits}
@@ -33,7 +32,7 @@ unfolding idle_value
 idle_goes_on first n word b e f = ap (λ x. 2 * x + bit_value b) e ∙ ap (λ x. 2 * idle_value first n + bit_value x) f
 
 -- 64 idle bits are no codeblock in detecting mode, whichever bit comes first
-idle_rejected : (first : Bool) → verdict Detecting (idle_value first 64) ≡ Rejected
+idle_rejected : (first : Bool) → verdict Detecting (idle_value first 64) ≡ rejected
 unfolding idle_value divided weight place_from
 idle_rejected true = refl
 idle_rejected false = refl

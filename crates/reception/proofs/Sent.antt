@@ -2,8 +2,7 @@
 use Rattle.std.proofs.Common.{◌≡◌, ℕ, zero, suc, ◌-◌, ◌*◌, ◌/◌, ◌%◌, ◌^◌, ◌≤◌, min, Bool, true, false, not, ◌⊎◌, List, [], ◌∷◌, ◌++◌, map, length, replicate, Some, None, Option, sym, refl, ap, ◌∙◌, subst, ap₂, inl, inr, append-nil, add-zero, mul-one, arith}
 use Rattle.std.specs.Int.Digits.{AllBelowBase}
 use Rattle.std.specs.List.{flat_map}
-use Rattle.bch.specs.declared.Verdict.TheVariants.{Rejected}
-use Rattle.bch.specs.Reception.{verdict}
+use Rattle.bch.specs.Reception.{rejected, verdict}
 use Rattle.randomizer.specs.declared.Randomizer.{Randomizer}
 use Rattle.randomizer.specs.Sequence.{randomized_from}
 use Rattle.randomizer.proofs.Laws.{octets_stay_octets}
@@ -40,7 +39,7 @@ module _ (settings : Settings) (showing : Showing) where
   announces : (o : Option Candidate) (candidate : Candidate) (n k : ℕ) → o ≡ Some candidate → announced o (report Closed n k ∷ []) ≡ candidate ∷ []
   announces o candidate n k e = ap (λ x. announced x (report Closed n k ∷ [])) e
 
-  tail_comes : (xs : List Bool) (es : List Event) (h : Held) (k n : ℕ) (candidate : Candidate) → Brings xs es → length xs ≡ 64 → verdict settings.mode (value xs) ≡ Rejected → h.opened ≡ Some candidate → length candidate / 7 ≡ suc n →
+  tail_comes : (xs : List Bool) (es : List Event) (h : Held) (k n : ℕ) (candidate : Candidate) → Brings xs es → length xs ≡ 64 → verdict settings.mode (value xs) ≡ rejected → h.opened ≡ Some candidate → length candidate / 7 ≡ suc n →
       TailIn h k candidate es
   tail_comes xs es h k n candidate br long rejected opened some =
       let w = word_comes settings showing xs es h 0 0 k br (omega arith) (omega arith) in

@@ -4,10 +4,9 @@ use lib.Bits.{xor_lt}
 use Rattle.std.specs.Int.Digits.{number_from_digits}
 use Rattle.bch.specs.declared.Mode.{Mode}
 use Rattle.bch.specs.declared.Mode.TheVariants.{Detecting, Correcting}
-use Rattle.bch.specs.declared.Verdict.TheVariants.{Accepted, Rejected}
 use Rattle.bch.specs.Polynomial.{◌⊕◌, weight, divided, remainder}
 use Rattle.bch.specs.Codeblock.{Information, sent}
-use Rattle.bch.specs.Reception.{syndrome_polynomial, received, power_remainder, place_from, wrong_place, judged, verdict, wrong_bits}
+use Rattle.bch.specs.Reception.{syndrome_polynomial, received, power_remainder, place_from, wrong_place, accepted, rejected, judged, verdict, wrong_bits}
 use Rattle.bch.proofs.Division.{divided_sum, divided_zero}
 use Rattle.bch.proofs.Laws.{undamaged_is_accepted, one_wrong_bit_is_corrected}
 use Rattle.bch.proofs.Places.{place_of_power}
@@ -27,11 +26,11 @@ value_from_below (b ∷ bs) n w h =
 pub value_below : (bits : List Bool) (n : ℕ) → length bits ≡ n → value bits < 2 ^ n
 value_below bits n e = let all : 0 + length bits ≡ n = omega arith in subst (λ k. value bits < 2 ^ k) all (value_from_below bits 0 0 (omega arith))
 
-pub accepted_within : (mode : Mode) (information : List ℕ) → Information information → (word : ℕ) → word < 2 ^ 64 → wrong_bits (sent information) word ≤ block_tolerance mode → (c : Bool) × (verdict mode word ≡ Accepted information c)
+pub accepted_within : (mode : Mode) (information : List ℕ) → Information information → (word : ℕ) → word < 2 ^ 64 → wrong_bits (sent information) word ≤ block_tolerance mode → (c : Bool) × (verdict mode word ≡ accepted information c)
 accepted_within Detecting information i word w few = (false, undamaged_is_accepted Detecting word w information i (omega arith))
 accepted_within Correcting information i word w few = by (wrong_bits (sent information) word) refl few
   where
-    by : (n : ℕ) → wrong_bits (sent information) word ≡ n → n ≤ 1 → (c : Bool) × (verdict Correcting word ≡ Accepted information c)
+    by : (n : ℕ) → wrong_bits (sent information) word ≡ n → n ≤ 1 → (c : Bool) × (verdict Correcting word ≡ accepted information c)
     by zero e few = (false, undamaged_is_accepted Correcting word w information i e)
     by (suc zero) e few = (true, one_wrong_bit_is_corrected Correcting word w information i refl e)
     by (suc (suc n)) e few = absurd (omega arith)
@@ -69,33 +68,33 @@ module _ (word : ℕ) (w : word < 2 ^ 64) where
   verdict_by mode p n a b = ap₂ (judged mode word) (parity_is ∙ a) (number_is ∙ b)
 
   -- with no wrong bit the number is 0, which has no place
-  whole_tail : (mode : Mode) → weight 63 e ≡ 0 → verdict mode word ≡ Rejected
+  whole_tail : (mode : Mode) → weight 63 e ≡ 0 → verdict mode word ≡ rejected
   whole_tail mode none =
       verdict_by mode 1 0 (ap (λ x. 1 ⊕ x % 2) none) (ap (remainder syndrome_polynomial 6) (weight_none 63 e below none) ∙ divided_zero syndrome_polynomial 6 64) ∙ by mode
     where
-      by : (mode : Mode) → judged mode word 1 0 ≡ Rejected
+      by : (mode : Mode) → judged mode word 1 0 ≡ rejected
       by Detecting = refl
       by Correcting = ap (λ o. Rattle.bch.specs.Reception.corrected word o) no_place
 
   -- with one the parity is 0 and the number is not
-  nonzero : (n : ℕ) → n ≢ 0 → (mode : Mode) → judged mode word 0 n ≡ Rejected
+  nonzero : (n : ℕ) → n ≢ 0 → (mode : Mode) → judged mode word 0 n ≡ rejected
   nonzero zero ne mode = absurd (ne refl)
   nonzero (suc n) ne mode = refl
 
-  damaged_tail : (mode : Mode) → weight 63 e ≡ 1 → verdict mode word ≡ Rejected
+  damaged_tail : (mode : Mode) → weight 63 e ≡ 1 → verdict mode word ≡ rejected
   damaged_tail mode one =
       let at = weight_one 63 e below one in
       let d = at.0 in
       verdict_by mode 0 (power_remainder d) (ap (λ x. 1 ⊕ x % 2) one) (ap (remainder syndrome_polynomial 6) at.2)
       ∙ nonzero (power_remainder d) (λ z. let found = sym (place_of_power d at.1) ∙ ap wrong_place z ∙ no_place in let absurdly : ◌≡◌ {A = ℕ} 0 1 = cc in omega arith) mode
 
-  twice_damaged_tail : weight 63 e ≡ 2 → verdict Detecting word ≡ Rejected
+  twice_damaged_tail : weight 63 e ≡ 2 → verdict Detecting word ≡ rejected
   twice_damaged_tail two = verdict_by Detecting 1 (remainder syndrome_polynomial 6 e) (ap (λ x. 1 ⊕ x % 2) two) refl
 
-  pub tail_is_rejected : (mode : Mode) → wrong_bits tail_word word ≤ tail_tolerance mode → verdict mode word ≡ Rejected
+  pub tail_is_rejected : (mode : Mode) → wrong_bits tail_word word ≤ tail_tolerance mode → verdict mode word ≡ rejected
   tail_is_rejected mode few = by mode (weight 63 e) refl few
     where
-      by : (mode : Mode) (n : ℕ) → weight 63 e ≡ n → n ≤ tail_tolerance mode → verdict mode word ≡ Rejected
+      by : (mode : Mode) (n : ℕ) → weight 63 e ≡ n → n ≤ tail_tolerance mode → verdict mode word ≡ rejected
       by mode zero is few = whole_tail mode is
       by mode (suc zero) is few = damaged_tail mode is
       by Correcting (suc (suc n)) is few = absurd (omega arith)

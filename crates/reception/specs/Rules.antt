@@ -1,10 +1,9 @@
 -- The rules of reception: what a receiver does at each event, by its settings, its state and what its hold means. They are total: an
 -- event that is refused changes nothing. Searching and decoding are apart, and decoding knows nothing of windows. Assumes nothing.
-use Rattle.std.specs.Prelude.{ℕ, zero, suc, ◌+◌, ◌*◌, ◌%◌, ◌^◌, min, Bool, true, false, cond, ◌&&◌, List, [], ◌∷◌, None, Option, ◌==◌, nat_le}
+use Rattle.std.specs.Prelude.{ℕ, zero, suc, ◌+◌, ◌*◌, ◌%◌, ◌^◌, min, Bool, true, false, cond, ◌&&◌, List, [], ◌∷◌, Some, None, Option, ◌==◌, nat_le}
 use Rattle.bch.specs.declared.Mode.{Mode}
 use Rattle.bch.specs.declared.Mode.TheVariants.{Detecting, Correcting}
-use Rattle.bch.specs.declared.Verdict.{Verdict}
-use Rattle.bch.specs.declared.Verdict.TheVariants.{Accepted, Rejected}
+use Rattle.bch.specs.declared.Accepted.{Accepted}
 use Rattle.bch.specs.Polynomial.{◌⊕◌, weight}
 use Rattle.bch.specs.Reception.{verdict}
 use Rattle.hold.specs.Candidates.{Candidate, Showing, open_codeblocks, free_space, after_open, after_add, open_after_finish, finished_after_finish, after_release}
@@ -93,9 +92,9 @@ counting_in settings showing h corrections octets corrected =
     (goes_on (adding showing h octets) (corrections + bit_value corrected)))
 
 -- judged first, counted second
-abbrev pub decoded_by : Settings → Showing → Held → ℕ → Verdict → Decoded
-decoded_by settings showing h corrections Rejected = closing h (added h) corrections
-decoded_by settings showing h corrections (Accepted octets corrected) = counting_in settings showing h corrections octets corrected
+abbrev pub decoded_by : Settings → Showing → Held → ℕ → Option Accepted → Decoded
+decoded_by settings showing h corrections None = closing h (added h) corrections
+decoded_by settings showing h corrections (Some x) = counting_in settings showing h corrections x.information x.corrected
 
 abbrev pub decoded : Settings → Showing → Held → ℕ → ℕ → Decoded
 decoded settings showing h corrections word = decoded_by settings showing h corrections (verdict settings.mode word)

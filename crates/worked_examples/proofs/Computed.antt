@@ -2,20 +2,19 @@
 use Rattle.std.proofs.Common.{◌≡◌, ℕ, ◌+◌, ◌*◌, true, false, refl, ap, ◌∙◌}
 use Rattle.bch.specs.declared.Mode.{Mode}
 use Rattle.bch.specs.declared.Mode.TheVariants.{Detecting, Correcting}
-use Rattle.bch.specs.declared.Verdict.TheVariants.{Rejected}
 use Rattle.std.specs.Int.Digits.{number_from_digits}
 use Rattle.bch.specs.Polynomial.{weight, divided}
-use Rattle.bch.specs.Reception.{place_from, verdict}
+use Rattle.bch.specs.Reception.{place_from, rejected, verdict}
 use Rattle.cltu.specs.Cltu.{codeblocks_for, tail_sequence}
 use Rattle.cltu.proofs.Places.{length_cltu}
 use Rattle.worked_examples.specs.Worked.{starts, idle_from_zero, CltuOctets, WorkedExamples}
 
-tail_rejected : (mode : Mode) → verdict mode (number_from_digits 256 tail_sequence) ≡ Rejected
+tail_rejected : (mode : Mode) → verdict mode (number_from_digits 256 tail_sequence) ≡ rejected
 unfolding divided weight place_from
 tail_rejected Detecting = refl
 tail_rejected Correcting = refl
 
-idle_from_zero_rejected : (mode : Mode) → verdict mode idle_from_zero ≡ Rejected
+idle_from_zero_rejected : (mode : Mode) → verdict mode idle_from_zero ≡ rejected
 unfolding divided weight place_from
 idle_from_zero_rejected Detecting = refl
 idle_from_zero_rejected Correcting = refl

@@ -3,9 +3,8 @@ use Rattle.std.specs.Prelude.{◌≡◌, ℕ, Bool, true, false, List, [], ◌�
 use Rattle.std.specs.Int.Digits.{number_from_digits}
 use Rattle.bch.specs.declared.Mode.{Mode}
 use Rattle.bch.specs.declared.Mode.TheVariants.{Detecting, Correcting}
-use Rattle.bch.specs.declared.Verdict.TheVariants.{Accepted, Rejected}
 use Rattle.bch.specs.Codeblock.{codeblock}
-use Rattle.bch.specs.Reception.{syndrome, wrong_place, verdict}
+use Rattle.bch.specs.Reception.{accepted, rejected, syndrome, wrong_place, verdict}
 use Rattle.randomizer.specs.declared.Randomizer.{Randomizer}
 use Rattle.randomizer.specs.Sequence.{sequence_octet}
 use Rattle.reception.specs.Rules.{settings, is_start, Phase, SEARCH, DECODE, INACTIVE, Event, carrier_up, symbol, made}
@@ -56,19 +55,19 @@ pub record WorkedExamples : Type 0 where
   pub fill_octets : Ends (replicate 7 0x55) 0xD6
   pub randomizer : sequence_octet 0 ∷ sequence_octet 1 ∷ sequence_octet 2 ∷ sequence_octet 3 ∷ sequence_octet 4 ∷ [] ≡ 0xFF ∷ 0x39 ∷ 0x9E ∷ 0x5A ∷ 0x68 ∷ []
   pub tail_syndrome : syndrome (number_from_digits 256 tail_sequence) ≡ (1, 0)
-  pub tail_rejected : (mode : Mode) → verdict mode (number_from_digits 256 tail_sequence) ≡ Rejected
+  pub tail_rejected : (mode : Mode) → verdict mode (number_from_digits 256 tail_sequence) ≡ rejected
   pub idle_from_zero_syndrome : syndrome idle_from_zero ≡ (0, 2)
-  pub idle_from_zero_rejected : (mode : Mode) → verdict mode idle_from_zero ≡ Rejected
+  pub idle_from_zero_rejected : (mode : Mode) → verdict mode idle_from_zero ≡ rejected
   pub idle_from_one_syndrome : syndrome idle_from_one ≡ (1, 2)
   pub idle_from_one_place : wrong_place 2 ≡ Some 1
-  pub idle_from_one_detected : verdict Detecting idle_from_one ≡ Rejected
-  pub idle_from_one_corrected : verdict Correcting idle_from_one ≡ Accepted (replicate 7 0xAA) true
+  pub idle_from_one_detected : verdict Detecting idle_from_one ≡ rejected
+  pub idle_from_one_corrected : verdict Correcting idle_from_one ≡ accepted (replicate 7 0xAA) true
   pub cltu_of_1 : CltuOctets 1 18
   pub cltu_of_7 : CltuOctets 7 18
   pub cltu_of_8 : CltuOctets 8 26
   pub cltu_of_1024 : CltuOctets 1024 1186
-  pub tail_with_two_wrong_bits : verdict Correcting 0xC5C5_C5C5_C5C5_C57F ≡ Accepted (replicate 7 0xC5) true
-  pub tail_with_three_wrong_bits : verdict Detecting 0xC5C5_C5C5_C5C5_C5FF ≡ Accepted (replicate 7 0xC5) false
+  pub tail_with_two_wrong_bits : verdict Correcting 0xC5C5_C5C5_C5C5_C57F ≡ accepted (replicate 7 0xC5) true
+  pub tail_with_three_wrong_bits : verdict Detecting 0xC5C5_C5C5_C5C5_C5FF ≡ accepted (replicate 7 0xC5) false
   pub start_undamaged : (mode : Mode) → starts mode 0xEB90 ≡ true
   pub start_with_a_wrong_bit : starts Correcting 0xEB91 ≡ true
   pub start_with_a_wrong_bit_detected : starts Detecting 0xEB91 ≡ false

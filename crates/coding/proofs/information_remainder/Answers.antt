@@ -14,18 +14,17 @@ loop-octet-init c = (sym (divided_zero generator 7 64), omega arith)
 
 pub loop-octet-preserved : goal.loop-octet-preserved
 loop-octet-preserved c =
-    let is = c.octet_remainder-remainder.ensures in
+    let is = c.octet_remainder-bits.ensures in
     let inv = c.loop-octet.invariant in
     let xs = c.args.information.now in
-    let r = c.loop-octet.remainder in
+    let r = c.loop-octet.bits in
     let i = c.loop-octet.octet-index in (
       is ∙ step xs c.fits-information i r c.loop-octet-test.true c.told-information inv.0 inv.1,
       subst (λ x. x < 2 ^ 7) (sym is) (octet_remainder_below _ (xor_lt 8 _ (get_or xs i 0) (omega arith) (c.fits-information i))),
     )
 
+pub invariant_of-result : goal.invariant_of-result
+invariant_of-result c = record { seven = c.loop-octet.invariant.1 }
+
 pub returns : goal.returns
-returns c =
-    record {
-      value = c.loop-octet.invariant.0 ∙ ap (λ x. remainder generator 7 (2 ^ 7 * number_from_digits 256 x)) (take_all c.loop-octet.octet-index c.args.information.now (omega arith));
-      bound = c.loop-octet.invariant.1;
-    }
+returns c = c.loop-octet.invariant.0 ∙ ap (λ x. remainder generator 7 (2 ^ 7 * number_from_digits 256 x)) (take_all c.loop-octet.octet-index c.args.information.now (omega arith))

@@ -6,4 +6,4 @@ use Rattle.bch.specs.Codeblock.{generator}
 use Rattle.coding.proofs.information_remainder.Given as goal
 
 abbrev pub invariant-loop-octet : goal.invariant-loop-octet
-invariant-loop-octet l = (l.remainder ≡ remainder generator 7 (2 ^ 7 * number_from_digits 256 (take l.octet-index l.information))) × (l.remainder < 2 ^ 7)
+invariant-loop-octet l = (l.bits ≡ remainder generator 7 (2 ^ 7 * number_from_digits 256 (take l.octet-index l.information))) × (l.bits < 2 ^ 7)

@@ -6,17 +6,17 @@ use Rattle.bch.specs.Reception.{syndrome_polynomial}
 use Rattle.bch.proofs.Division.{divided_low}
 use Rattle.bch.proofs.Syndromes.{number_of_remainder}
 use Rattle.coding.proofs.Received.{reduced_once}
-use Rattle.coding.proofs.reduced.Goals as goal
+use Rattle.coding.proofs.coefficients.Coefficients.reduced.Goals as goal
 
 number : (r s : ℕ) → s ≡ remainder syndrome_polynomial 6 r → (p : ℕ) → p < 2 ^ 63 → r ≡ remainder generator 7 p → s ≡ remainder syndrome_polynomial 6 p
 number r s e p small is = e ∙ ap (remainder syndrome_polynomial 6) is ∙ sym (number_of_remainder p small)
 
-pub returns-then-remainder-lt64 : goal.returns-then-remainder-lt64
-returns-then-remainder-lt64 c =
-    let value = sym (divided_low syndrome_polynomial 6 64 c.args.remainder c.if-remainder-lt64.true) in
-    record { value = value; number = number c.args.remainder c.args.remainder value }
+pub returns-then-self-lt64 : goal.returns-then-self-lt64
+returns-then-self-lt64 c =
+    let value = sym (divided_low syndrome_polynomial 6 64 c.args.self.bits c.if-self-lt64.true) in
+    record { value = value; number = number c.args.self.bits c.args.self.bits value }
 
-pub returns-else-remainder-lt64 : goal.returns-else-remainder-lt64
-returns-else-remainder-lt64 c =
-    let value = reduced_once c.args.remainder c.if-remainder-lt64.false c.requires in
-    record { value = value; number = number c.args.remainder _ value }
+pub returns-else-self-lt64 : goal.returns-else-self-lt64
+returns-else-self-lt64 c =
+    let value = reduced_once c.args.self.bits c.if-self-lt64.false c.args.self.seven in
+    record { value = value; number = number c.args.self.bits _ value }
