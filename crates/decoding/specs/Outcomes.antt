@@ -1,11 +1,10 @@
 -- What decoding answers, with what the hold means then, in the words of the rules. Assumes nothing.
 use Rattle.std.specs.Prelude.{ℕ, min}
+use Rattle.std.specs.declared.ops.ControlFlow.{ControlFlow}
+use Rattle.std.specs.declared.ops.ControlFlow.TheVariants.{Continue, Break}
+use Rattle.reception.specs.declared.Report.{Report}
 use Rattle.reception.specs.Rules.{Held, Decoded, goes_on, ends, Phase, INACTIVE, SEARCH, DECODE, state, Outcome, quietly, reporting, searching}
-use Rattle.decoding.specs.declared.Added.{Added}
-use Rattle.decoding.specs.declared.Added.TheVariants.{GoesOn, Ends}
 use Rattle.decoding.specs.declared.progress.Decoding.{Decoding}
-use Rattle.decoding.specs.declared.Step.{Step}
-use Rattle.decoding.specs.declared.Step.TheVariants.{Continues, Ended}
 
 abbrev pub phase_in : Decoding → Phase
 phase_in d = DECODE d.count d.word d.corrections
@@ -26,11 +25,11 @@ told_phase (DECODE count word corrections) = DECODE count word (told corrections
 abbrev pub told_outcome : Outcome → Outcome
 told_outcome o = record { after = state (told_phase o.after.phase) o.after.held; reports = o.reports }
 
-abbrev pub decoded_as : Added → Held → Decoded
-decoded_as (GoesOn corrections) held = goes_on held corrections
-decoded_as (Ends report) held = ends held report
+abbrev pub decoded_as : ControlFlow Report ℕ → Held → Decoded
+decoded_as (Continue corrections) held = goes_on held corrections
+decoded_as (Break report) held = ends held report
 
 -- DECODE goes on, or a report is made and SEARCH follows
-abbrev pub outcome_as : Step → Held → Outcome
-outcome_as (Continues decoding) held = quietly (phase_in decoding) held
-outcome_as (Ended report) held = reporting searching held report
+abbrev pub outcome_as : ControlFlow Report Decoding → Held → Outcome
+outcome_as (Continue decoding) held = quietly (phase_in decoding) held
+outcome_as (Break report) held = reporting searching held report

@@ -8,12 +8,13 @@ ghost use Rattle.reception.specs.declared.Reason.TheVariants.{Down as down};
 ghost use Rattle.decoding.specs.Meaning.{rules_of, made_settings, settings_answer, held_in};
 ghost use Rattle.decoding.specs.Outcomes.{phase_in, decoded_as, outcome_as, told_decoded, told_outcome};
 
-use bch::{Mode, Verdict};
+use bch::{Accepted, Mode};
 use cltu::CodeblockLimit;
 use coding::judge;
 use hold::Hold;
 use reception::{Reason, Report};
 use refusals::Refusal;
+use std::ops::ControlFlow;
 
 mod progress;
 
@@ -39,15 +40,6 @@ impl Settings {
     }
 }
 
-/// What a symbol brings.
-#[derive(Clone, Copy)]
-pub enum Step {
-    /// Decoding goes on.
-    Continues(Decoding),
-    /// The candidate is finished or abandoned, and a search follows.
-    Ended(Report),
-}
-
 impl Decoding {
     /// Begins a candidate in the hold, behind a start sequence.
     pub fn begin<H: Hold>(hold: &mut H) -> Decoding
@@ -63,27 +55,31 @@ impl Decoding {
         }
     }
 
-    /// One symbol more. The 64th of a codeblock has it judged, and the candidate goes on or ends. Corrections
-    /// are counted up to 65,535, which is more codeblocks than a hold can have.
-    pub fn symbol<H: Hold>(self, hold: &mut H, settings: Settings, bit: bool) -> Step
+    /// One symbol more. The 64th of a codeblock has it judged. Decoding goes on, or breaks off with a report: the
+    /// candidate is finished or abandoned, and a search follows. Corrections are counted up to 65,535, which is
+    /// more codeblocks than a hold can have.
+    pub fn symbol<H: Hold>(
+        self,
+        hold: &mut H,
+        settings: Settings,
+        bit: bool,
+    ) -> ControlFlow<Report, Decoding>
         ensures { outcome_as result (held_in H.Hold hold.new) ≡ told_outcome (at_symbol (rules_of settings) H.Hold.showing (phase_in self) (held_in H.Hold hold.old) bit) }
     {
         let word = self.word_with(bit);
         if self.count < 63 {
-            return Step::Continues(Decoding {
+            return ControlFlow::Continue(Decoding {
                 count: self.count + 1,
                 word,
                 corrections: self.corrections,
             });
         }
-        match decode(hold, settings, self.corrections, word) {
-            Added::GoesOn(corrections) => Step::Continues(Decoding {
-                count: 0,
-                word: 0,
-                corrections,
-            }),
-            Added::Ends(report) => Step::Ended(report),
-        }
+        let corrections = self.decode(hold, settings, word)?;
+        ControlFlow::Continue(Decoding {
+            count: 0,
+            word: 0,
+            corrections,
+        })
     }
 
     /// The carrier went down: the candidate is abandoned.
@@ -91,13 +87,9 @@ impl Decoding {
         ensures report { result ≡ report down (added (held_in H.Hold hold.old)) self.corrections }
         ensures held { held_in H.Hold hold.new ≡ abandoning (held_in H.Hold hold.old) }
     {
-        let codeblocks = (*hold).open_codeblocks();
+        let added = (*hold).open_codeblocks();
         let _ = hold.abandon();
-        Report {
-            reason: Reason::Down,
-            codeblocks,
-            corrections: self.corrections as usize,
-        }
+        self.report(Reason::Down, added)
     }
 
     // The symbols of the codeblock with one more.
@@ -106,73 +98,70 @@ impl Decoding {
     {
         (self.word << 1) | u64::from(bit)
     }
-}
 
-// What becomes of the open candidate at a codeblock.
-#[derive(Clone, Copy)]
-enum Added {
-    // The codeblock was added, and so many of the candidate's are corrected.
-    GoesOn(u16),
-    // The candidate is finished or abandoned.
-    Ends(Report),
-}
-
-// Judges 64 symbols and adds them to the open candidate, or ends it.
-fn decode<H: Hold>(hold: &mut H, settings: Settings, corrections: u16, word: u64) -> Added
-    ensures { decoded_as result (held_in H.Hold hold.new) ≡ told_decoded (decoded (rules_of settings) H.Hold.showing (held_in H.Hold hold.old) corrections word) }
-{
-    match judge(settings.mode, word) {
-        Verdict::Rejected => Added::Ends(close(hold, corrections)),
-        Verdict::Accepted {
-            information,
-            corrected,
-        } => count_in(hold, settings, corrections, information, corrected),
+    fn report(self, reason: Reason, codeblocks: usize) -> Report
+        ensures { result ≡ report reason codeblocks self.corrections }
+    {
+        Report {
+            reason,
+            codeblocks,
+            corrections: self.corrections as usize,
+        }
     }
-}
 
-// A rejected codeblock: the candidate is finished or, where nothing was added to it, abandoned. Neither
-// is refused while a candidate is open, as it is from its start on.
-fn close<H: Hold>(hold: &mut H, corrections: u16) -> Report
-    ensures { ends (held_in H.Hold hold.new) result ≡ closing (held_in H.Hold hold.old) (added (held_in H.Hold hold.old)) corrections }
-{
-    let codeblocks = (*hold).open_codeblocks();
-    let reason = if codeblocks == 0 {
+    // Judges 64 symbols and adds them to the open candidate, of which so many codeblocks are corrected then, or
+    // ends it.
+    fn decode<H: Hold>(
+        self,
+        hold: &mut H,
+        settings: Settings,
+        word: u64,
+    ) -> ControlFlow<Report, u16>
+        ensures { decoded_as result (held_in H.Hold hold.new) ≡ told_decoded (decoded (rules_of settings) H.Hold.showing (held_in H.Hold hold.old) self.corrections word) }
+    {
+        match judge(settings.mode, word) {
+            None => ControlFlow::Break(self.close(hold)),
+            Some(accepted) => self.count_in(hold, settings, accepted),
+        }
+    }
+
+    // A rejected codeblock: the candidate is finished or, where nothing was added to it, abandoned. Neither
+    // is refused while a candidate is open, as it is from its start on.
+    fn close<H: Hold>(self, hold: &mut H) -> Report
+        ensures { ends (held_in H.Hold hold.new) result ≡ closing (held_in H.Hold hold.old) (added (held_in H.Hold hold.old)) self.corrections }
+    {
+        let codeblocks = (*hold).open_codeblocks();
+        if codeblocks == 0 {
+            let _ = hold.abandon();
+            self.report(Reason::Empty, codeblocks)
+        } else {
+            let _ = hold.finish();
+            self.report(Reason::Closed, codeblocks)
+        }
+    }
+
+    // An accepted codeblock: it is added, unless as many as the limit are or the hold is full.
+    fn count_in<H: Hold>(
+        self,
+        hold: &mut H,
+        settings: Settings,
+        accepted: Accepted,
+    ) -> ControlFlow<Report, u16>
+        ensures { decoded_as result (held_in H.Hold hold.new) ≡ told_decoded (counting_in (rules_of settings) H.Hold.showing (held_in H.Hold hold.old) self.corrections accepted.information accepted.corrected) }
+    {
+        let codeblocks = (*hold).open_codeblocks();
+        let reason = if codeblocks >= settings.limit.count() {
+            Reason::Long
+        } else if (*hold).free_space() == 0 {
+            Reason::Full
+        } else {
+            let _ = hold.add(accepted.information);
+            return ControlFlow::Continue(
+                self.corrections
+                    .saturating_add(u16::from(accepted.corrected)),
+            );
+        };
         let _ = hold.abandon();
-        Reason::Empty
-    } else {
-        let _ = hold.finish();
-        Reason::Closed
-    };
-    Report {
-        reason,
-        codeblocks,
-        corrections: corrections as usize,
+        ControlFlow::Break(self.report(reason, codeblocks))
     }
-}
-
-// An accepted codeblock: it is added, unless as many as the limit are or the hold is full.
-fn count_in<H: Hold>(
-    hold: &mut H,
-    settings: Settings,
-    corrections: u16,
-    octets: [u8; 7],
-    corrected: bool,
-) -> Added
-    ensures { decoded_as result (held_in H.Hold hold.new) ≡ told_decoded (counting_in (rules_of settings) H.Hold.showing (held_in H.Hold hold.old) corrections octets corrected) }
-{
-    let codeblocks = (*hold).open_codeblocks();
-    let reason = if codeblocks >= settings.limit.count() {
-        Reason::Long
-    } else if (*hold).free_space() == 0 {
-        Reason::Full
-    } else {
-        let _ = hold.add(octets);
-        return Added::GoesOn(corrections.saturating_add(u16::from(corrected)));
-    };
-    let _ = hold.abandon();
-    Added::Ends(Report {
-        reason,
-        codeblocks,
-        corrections: corrections as usize,
-    })
 }
