@@ -5,8 +5,10 @@ use Rattle.hold.specs.Candidates.{Candidate, Showing}
 use Rattle.reception.specs.Rules.{Settings, Held, added, Phase, INACTIVE, SEARCH, DECODE, state, Outcome, at_symbol}
 use Rattle.reception.proofs.Decoding.{IsOpen}
 use Rattle.reception.proofs.Among.{Among, symbol_among}
-use Rattle.decoding.specs.declared.Step.{Step}
-use Rattle.decoding.specs.declared.Step.TheVariants.{Continues, Ended}
+use Rattle.std.specs.declared.ops.ControlFlow.{ControlFlow}
+use Rattle.std.specs.declared.ops.ControlFlow.TheVariants.{Continue, Break}
+use Rattle.reception.specs.declared.Report.{Report}
+use Rattle.decoding.specs.declared.progress.Decoding.{Decoding}
 use Rattle.decoding.specs.Outcomes.{outcome_as, told_phase, told_outcome}
 use Rattle.receiver.specs.Phases.{few_corrections, few_after}
 
@@ -43,12 +45,12 @@ told_as_it_is : (o : Outcome) → few_corrections o.after.phase o.after.held ≡
 told_as_it_is o few most = ap (λ (p : Phase). record { after = state p o.after.held; reports = o.reports }) (told_same o.after.phase o.after.held few most)
 
 -- what a symbol in DECODE made of a candidate, as it was told, is what the rules make of it
-pub told_right : (step : Step) (h : Held) (o : Outcome) → outcome_as step h ≡ told_outcome o → few_corrections o.after.phase o.after.held ≡ true → added h ≤ 65535 →
+pub told_right : (step : ControlFlow Report Decoding) (h : Held) (o : Outcome) → outcome_as step h ≡ told_outcome o → few_corrections o.after.phase o.after.held ≡ true → added h ≤ 65535 →
     (outcome_as step h ≡ o) × (few_after step h ≡ true)
-told_right (Continues decoding) h o e few most =
+told_right (Continue decoding) h o e few most =
     let same : h ≡ o.after.held = ap (λ u. u.after.held) e in
     let is = e ∙ told_as_it_is o few (subst (λ g. added g ≤ 65535) same most) in
     (is, ap (λ u. few_corrections u.after.phase u.after.held) is ∙ few)
-told_right (Ended one) h o e few most =
+told_right (Break one) h o e few most =
     let same : h ≡ o.after.held = ap (λ u. u.after.held) e in
     (e ∙ told_as_it_is o few (subst (λ g. added g ≤ 65535) same most), refl)

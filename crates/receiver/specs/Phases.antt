@@ -1,8 +1,10 @@
 -- What the phase of a receiver means: a phase of the rules of reception. Assumes nothing.
 use Rattle.std.specs.Prelude.{Bool, true, ◌&&◌, is_some, nat_le}
 use Rattle.reception.specs.Rules.{Phase, INACTIVE, SEARCH, DECODE, Held, added}
-use Rattle.decoding.specs.declared.Step.{Step}
-use Rattle.decoding.specs.declared.Step.TheVariants.{Continues, Ended}
+use Rattle.std.specs.declared.ops.ControlFlow.{ControlFlow}
+use Rattle.std.specs.declared.ops.ControlFlow.TheVariants.{Continue, Break}
+use Rattle.reception.specs.declared.Report.{Report}
+use Rattle.decoding.specs.declared.progress.Decoding.{Decoding}
 use Rattle.decoding.specs.Outcomes.{phase_in}
 use Rattle.receiver.specs.declared.phase.Phase.{Phase as Kept}
 use Rattle.receiver.specs.declared.phase.Phase.TheVariants.{Inactive, Search, Decode}
@@ -19,6 +21,6 @@ few_corrections INACTIVE h = true
 few_corrections (SEARCH count window) h = true
 few_corrections (DECODE count word corrections) h = is_some h.opened && nat_le corrections (added h)
 
-abbrev pub few_after : Step → Held → Bool
-few_after (Continues decoding) h = few_corrections (phase_in decoding) h
-few_after (Ended report) h = true
+abbrev pub few_after : ControlFlow Report Decoding → Held → Bool
+few_after (Continue decoding) h = few_corrections (phase_in decoding) h
+few_after (Break report) h = true

@@ -15,13 +15,14 @@ ghost use Rattle.receiver.specs.Meaning.{state_of, event_of, free_slots, symbols
 ghost use Rattle.receiver.specs.Calls.{named, reports_made, CameBy, Called};
 ghost use Rattle.receiver.specs.Events.{refused_by, reported_by, outcome_of, reports_at, ComesTo, Queued, Told, Ran};
 
-use decoding::{Decoding, Settings, Step};
+use decoding::{Decoding, Settings};
 use hold::{Hold, copy_oldest};
 use phase::{Event, Phase};
 use queue::Queue;
 use reception::Report;
 use refusals::Refusal;
 use searching::{Symbol, Window};
+use std::ops::ControlFlow;
 
 mod phase;
 mod state;
@@ -58,7 +59,12 @@ fn search<H: Hold>(window: Window, hold: &mut H, settings: Settings, bit: bool) 
 }
 
 // A symbol in DECODE, with so much of the candidate so far.
-fn decode<H: Hold>(decoding: Decoding, hold: &mut H, settings: Settings, bit: bool) -> Step
+fn decode<H: Hold>(
+    decoding: Decoding,
+    hold: &mut H,
+    settings: Settings,
+    bit: bool,
+) -> ControlFlow<Report, Decoding>
     requires { few_corrections (phase_in decoding) (held_in H.Hold hold.old) ≡ true }
     ensures outcome { outcome_as result (held_in H.Hold hold.new) ≡ at_symbol (rules_of settings) H.Hold.showing (phase_in decoding) (held_in H.Hold hold.old) bit }
     ensures few { few_after result (held_in H.Hold hold.new) ≡ true }
@@ -93,10 +99,8 @@ impl<H: Hold> Receiver<H> {
         ensures answer { result ≡ answered (refusal (state_of H.Hold self.old) call_up) tt }
         ensures after { Called H.Hold call_up self.old self.new }
     {
-        match self.at_event(Event::CarrierUp) {
-            Ok(_) => Ok(()),
-            Err(refusal) => Err(refusal),
-        }
+        self.at_event(Event::CarrierUp)?;
+        Ok(())
     }
 
     /// Carrier down: the receiver is INACTIVE. An open candidate is abandoned, and the report of it goes
@@ -106,10 +110,8 @@ impl<H: Hold> Receiver<H> {
         ensures after { Called H.Hold (call_down (free_slots reports.old)) self.old self.new }
         ensures queued { Queued (reports_made H.Hold self.old (call_down (free_slots reports.old))) reports.old reports.new }
     {
-        match self.take_event(Event::CarrierDown, reports) {
-            Ok(_) => Ok(()),
-            Err(refusal) => Err(refusal),
-        }
+        self.take_event(Event::CarrierDown, reports)?;
+        Ok(())
     }
 
     /// Symbols of any kind, any number of them. Answers how many reports they made; these go into the queue
@@ -176,10 +178,8 @@ impl<H: Hold> Receiver<H> {
         ensures answer { result ≡ answered (event_refusal (state_of H.Hold self.old) (event_of event)) (length (outcome_of H.Hold self.old (event_of event)).reports) }
         ensures ran { Ran H.Hold (event_of event ∷ []) self.old self.new reports.old reports.new }
     {
-        match self.at_event(event) {
-            Ok(made) => Ok(self.tell(made, reports)),
-            Err(refusal) => Err(refusal),
-        }
+        let made = self.at_event(event)?;
+        Ok(self.tell(made, reports))
     }
 
     // Tells a report, if there is one: how many there were, 0 or 1.
@@ -200,9 +200,8 @@ impl<H: Hold> Receiver<H> {
     fn put(&mut self, report: Report, reports: &mut Queue<'_, Report>)
         ensures { Told H.Hold (report ∷ []) self.old self.new reports.old reports.new }
     {
-        match reports.put(report) {
-            Ok(()) => {}
-            Err(_) => self.lost = self.lost.saturating_add(1),
+        if reports.put(report).is_err() {
+            self.lost = self.lost.saturating_add(1);
         }
     }
 
@@ -233,11 +232,11 @@ impl<H: Hold> Receiver<H> {
             }
             (Phase::Decode(decoding), Event::Symbol(bit)) => {
                 match decode(decoding, &mut self.hold, self.settings, bit) {
-                    Step::Continues(decoding) => {
+                    ControlFlow::Continue(decoding) => {
                         self.phase = Phase::Decode(decoding);
                         Ok(None)
                     }
-                    Step::Ended(report) => {
+                    ControlFlow::Break(report) => {
                         self.phase = Phase::Search(Window::EMPTY);
                         Ok(Some(report))
                     }
