@@ -40,11 +40,6 @@ pub enum ReceiverState {
     Decode,
 }
 
-// The promise of every receiver with these settings over a hold of this kind.
-fn promised<H: Hold>(settings: Settings)
-    ensures { ReceiverPromise (rules_of settings) H.Hold.showing }
-{}
-
 // A symbol in SEARCH, with this window so far.
 fn search<H: Hold>(window: Window, hold: &mut H, settings: Settings, bit: bool) -> Phase
     ensures outcome { quietly (phase_of result) (held_in H.Hold hold.new) ≡ at_symbol (rules_of settings) H.Hold.showing (SEARCH window.count window.bits) (held_in H.Hold hold.old) bit }
@@ -82,7 +77,6 @@ impl<H: Hold> Receiver<H> {
         ensures lost { result.lost ≡ 0 }
         ensures promise { ReceiverPromise (rules_of settings) H.Hold.showing }
     {
-        promised::<H>(settings);
         let mut hold = hold;
         // Refused where none is open, and then there is nothing to abandon.
         let _ = hold.abandon();
