@@ -1,9 +1,6 @@
 -- What `information_remainder` leaves to show: the turns of its loop over the octets. Assumes nothing.
-use Rattle.std.proofs.Common.{◌*◌, ◌^◌, ◌<◌, get_or, sym, ap, ◌∙◌, subst, arith}
+use Rattle.std.proofs.Common.{◌^◌, ◌<◌, get_or, sym, ◌∙◌, subst, arith}
 use lib.Bits.{xor_lt}
-use Rattle.std.specs.Int.Digits.{number_from_digits}
-use Rattle.std.proofs.lemmas.List.{take_all}
-use Rattle.bch.specs.Polynomial.{remainder}
 use Rattle.bch.specs.Codeblock.{generator}
 use Rattle.bch.proofs.Division.{divided_zero}
 use Rattle.coding.proofs.Remainders.{octet_remainder_below, step}
@@ -22,9 +19,3 @@ loop-octet-preserved c =
       is ∙ step xs c.fits-information i r c.loop-octet-test.true c.told-information inv.0 inv.1,
       subst (λ x. x < 2 ^ 7) (sym is) (octet_remainder_below _ (xor_lt 8 _ (get_or xs i 0) (omega arith) (c.fits-information i))),
     )
-
-pub invariant_of-result : goal.invariant_of-result
-invariant_of-result c = record { seven = c.loop-octet.invariant.1 }
-
-pub returns : goal.returns
-returns c = c.loop-octet.invariant.0 ∙ ap (λ x. remainder generator 7 (2 ^ 7 * number_from_digits 256 x)) (take_all c.loop-octet.octet-index c.args.information.now (omega arith))
