@@ -1,9 +1,9 @@
 -- Reports that go into a queue, and those that are lost. Assumes nothing.
-use Rattle.std.proofs.Common.{◌≡◌, ℕ, zero, suc, ◌+◌, ◌-◌, ◌<◌, ◌≤◌, min, List, [], ◌∷◌, ◌++◌, length, take, sym, refl, ap, ◌∙◌, ap₂, append_assoc, append-nil, arith}
+use Rattle.std.proofs.Common.{◌≡◌, ℕ, zero, suc, ◌+◌, ◌-◌, ◌≤◌, min, List, [], ◌∷◌, ◌++◌, length, take, sym, refl, ap, ◌∙◌, ap₂, append_assoc, append-nil, arith}
 use lib.Seq.{take-nil}
 use Rattle.std.proofs.lemmas.List.{length-append, length-take}
 use Rattle.queue.specs.declared.Queue.{Queue}
-use Rattle.queue.specs.Waiting.{waiting, capacity}
+use Rattle.queue.specs.Waiting.{waiting}
 use Rattle.reception.specs.declared.Report.{Report}
 use Rattle.reception.specs.Calls.{lost_after}
 use Rattle.receiver.specs.Meaning.{free_slots}
@@ -15,20 +15,6 @@ queued_none q = record { waits = sym (ap (λ l. waiting q ++ l) (take-nil (free_
 
 pub lost_none : (free lost : ℕ) → lost ≤ 65535 → lost ≡ lost_after free lost []
 lost_none free lost few = omega arith
-
--- one that finds a place, and one that finds none
-take_one : (n : ℕ) (x : Report) → 0 < n → take n (x ∷ []) ≡ x ∷ []
-take_one zero x some = absurd (omega arith)
-take_one (suc n) x some = ap (λ l. x ∷ l) (take-nil n)
-
-pub queued_one : (q later : Queue Report) (x : Report) → length (waiting q) < capacity q → waiting later ≡ waiting q ++ x ∷ [] → capacity later ≡ capacity q → Queued (x ∷ []) q later
-queued_one q later x room behind same =
-    record { waits = behind ∙ ap (λ l. waiting q ++ l) (sym (take_one (free_slots q) x (omega arith))); capacity = same }
-
-pub queued_full : (q : Queue Report) (x : Report) → length (waiting q) ≡ capacity q → Queued (x ∷ []) q q
-queued_full q x full =
-    let no_slot : free_slots q ≡ 0 = omega arith in
-    record { waits = sym (ap (λ n. waiting q ++ take n (x ∷ [])) no_slot ∙ append-nil (waiting q)); capacity = refl }
 
 -- some, and then more
 take_append : (n : ℕ) (xs ys : List Report) → take n (xs ++ ys) ≡ take n xs ++ take (n - length xs) ys

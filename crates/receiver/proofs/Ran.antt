@@ -1,23 +1,22 @@
 -- Events one after the other: what they make of a receiver and of the caller's queue. Assumes nothing.
-use Rattle.std.proofs.Common.{◌≡◌, ℕ, ◌+◌, Bool, List, [], ◌∷◌, ◌++◌, length, Err, sym, refl, ap, ◌∙◌, subst, ap₂, append_assoc, append-nil}
+use Rattle.std.proofs.Common.{◌≡◌, ℕ, ◌+◌, Bool, List, [], ◌∷◌, ◌++◌, length, Err, sym, refl, ap, ◌∙◌, subst, ap₂, append_assoc}
 use Rattle.std.proofs.lemmas.List.{length-append}
 use Rattle.refusals.specs.declared.Refusal.TheVariants.{CarrierDown}
 use Rattle.hold.specs.declared.Hold.{Ghosts}
-use Rattle.hold.specs.Candidates.{Candidate, Showing, release_answer}
+use Rattle.hold.specs.Candidates.{Showing}
 use Rattle.queue.specs.declared.Queue.{Queue}
 use Rattle.reception.specs.declared.Report.{Report}
 use Rattle.reception.specs.Rules.{Settings, Held, Phase, INACTIVE, SEARCH, DECODE, State, state, Event, at_up, at_event}
 use Rattle.reception.specs.Runs.{after_events, reports_of}
-use Rattle.reception.specs.Calls.{Call, symbol_events, events_in, refused_if_down, refused_if_none, answered, after_call, after_calls, lost_after}
+use Rattle.reception.specs.Calls.{Call, symbol_events, events_in, refused_if_down, answered, after_call, after_calls, lost_after}
 use Rattle.reception.proofs.Refused.{symbols_refused}
 use Rattle.reception.proofs.Brings.{after_append}
-use Rattle.reception.proofs.Decoding.{held}
 use Rattle.receiver.specs.declared.state.Receiver.{Receiver}
 use Rattle.decoding.specs.Meaning.{rules_of, held_in}
 use Rattle.receiver.specs.Phases.{phase_of}
 use Rattle.receiver.specs.Meaning.{state_of, free_slots}
 use Rattle.receiver.specs.Calls.{free_in, CameBy, Called}
-use Rattle.receiver.specs.Events.{outcome_of, reports_at, ComesTo, Queued, Told, Ran}
+use Rattle.receiver.specs.Events.{reports_at, Queued, Ran}
 use Rattle.receiver.proofs.Queues.{queued_none, queued_then, lost_none, lost_then, fewer_slots}
 
 -- carrier up makes no report
@@ -30,15 +29,6 @@ up_is_quiet (DECODE count word corrections) h = refl
 pub refused_in_vain : (p : Phase) (n : ℕ) → p ≡ INACTIVE → Err CarrierDown ≡ answered (refused_if_down p) n
 refused_in_vain p n e = ap (λ q. answered (refused_if_down q) n) (sym e)
 
--- what a release answers, and what it leaves in the hold
-pub release_answered : (finished : List Candidate) → release_answer finished ≡ answered (refused_if_none finished) tt
-release_answered [] = refl
-release_answered (candidate ∷ rest) = refl
-
-pub same_held : (h g : Held) → h.capacity ≡ g.capacity → h.finished ≡ g.finished → h.opened ≡ g.opened → h ≡ g
-same_held h g capacity finished opened =
-    ap (λ n. held n h.finished h.opened) capacity ∙ ap₂ (λ fs o. held g.capacity fs o) finished opened
-
 reports_append : (settings : Settings) (showing : Showing) (es fs : List Event) (s : State) →
     reports_of settings showing s (es ++ fs) ≡ reports_of settings showing s es ++ reports_of settings showing (after_events settings showing s es) fs
 reports_append settings showing [] fs s = refl
@@ -47,36 +37,6 @@ reports_append settings showing (e ∷ es) fs s =
     ∙ sym (append_assoc (at_event settings showing s e).reports (reports_of settings showing (at_event settings showing s e).after es) _)
 
 module _ {X : Type 0} (hold : Ghosts X) where
-  -- an event that makes no report
-  pub ran_quietly : (e : Event) (before after : Receiver X hold) (q : Queue Report) → ComesTo hold before (outcome_of hold before e) after → (outcome_of hold before e).reports ≡ [] →
-      Ran hold (e ∷ []) before after q q
-  ran_quietly e before after q to none =
-      let no_report : reports_at hold before (e ∷ []) ≡ [] = append-nil (outcome_of hold before e).reports ∙ none in
-      record {
-        state = to.state;
-        settings = to.settings;
-        lost = to.lost ∙ lost_none (free_slots q) before.lost before.lost_few ∙ ap (lost_after (free_slots q) before.lost) (sym no_report);
-        queued = subst (λ l. Queued l q q) (sym no_report) (queued_none q);
-      }
-
-  -- an event whose reports are told
-  pub ran_and_told : (e : Event) (before mid after : Receiver X hold) (q later : Queue Report) (reports : List Report) → ComesTo hold before (outcome_of hold before e) mid → reports ≡ (outcome_of hold before e).reports →
-      Told hold reports mid after q later → Ran hold (e ∷ []) before after q later
-  ran_and_told e before mid after q later reports to makes told =
-      let all : reports ≡ reports_at hold before (e ∷ []) = makes ∙ sym (append-nil (outcome_of hold before e).reports) in
-      record {
-        state = told.state ∙ to.state;
-        settings = told.settings ∙ to.settings;
-        lost = told.lost ∙ ap₂ (lost_after (free_slots q)) to.lost all;
-        queued = subst (λ l. Queued l q later) all told.queued;
-      }
-
-  pub told_none : (r : Receiver X hold) (q : Queue Report) (reports : List Report) → [] ≡ reports → Told hold reports r r q q
-  told_none r q reports none = subst (λ l. Told hold l r r q q) none (record { state = refl; settings = refl; lost = lost_none (free_slots q) r.lost r.lost_few; queued = queued_none q })
-
-  pub ran_none : (r : Receiver X hold) (q : Queue Report) → Ran hold [] r r q q
-  ran_none r q = record { state = refl; settings = refl; lost = lost_none (free_slots q) r.lost r.lost_few; queued = queued_none q }
-
   reports_then : (es fs : List Event) (a b : Receiver X hold) (q mid : Queue Report) → Ran hold es a b q mid → reports_at hold a es ++ reports_at hold b fs ≡ reports_at hold a (es ++ fs)
   reports_then es fs a b q mid first =
       let rules = rules_of a.settings in
@@ -129,17 +89,4 @@ module _ {X : Type 0} (hold : Ghosts X) where
         settings = ran.settings;
         lost = ran.lost ∙ ap (λ n. lost_after n before.lost (reports_at hold before (events_in call))) (sym free);
         came = came_more call before after ran.state ran.settings;
-      }
-
-  -- a call with no queue, whose one event makes no report
-  pub called_quietly : (call : Call) (e : Event) (before after : Receiver X hold) → events_in call ≡ e ∷ [] → ComesTo hold before (outcome_of hold before e) after → (outcome_of hold before e).reports ≡ [] → Called hold call before after
-  called_quietly call e before after one to none =
-      let rules = rules_of before.settings in
-      let state = to.state ∙ ap (after_events rules hold.showing (state_of hold before)) (sym one) in
-      record {
-        state = state;
-        settings = to.settings;
-        lost = to.lost ∙ lost_none (free_in call) before.lost before.lost_few
-            ∙ ap (lost_after (free_in call) before.lost) (sym (ap (reports_at hold before) one ∙ append-nil (outcome_of hold before e).reports ∙ none));
-        came = came_more call before after state to.settings;
       }
