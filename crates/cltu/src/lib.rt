@@ -3,7 +3,6 @@
 
 ghost use Rattle.std.specs.Prelude.{◌≡◌, ◌+◌, ◌*◌, ◌≤◌, ◌++◌, length, take, drop, bit_xor, slice_index_or};
 ghost use Rattle.randomizer.specs.Sequence.{added_at, randomized};
-ghost use Rattle.cltu.specs.Limit.{made_count, limit_answer};
 ghost use Rattle.cltu.specs.Cltu.{codeblocks_for, LeastThatHolds, filled, coded, cltu};
 ghost use Rattle.cltu.specs.Writing.{frame_refused, sent_cltu, writing_answer, memory_after};
 
@@ -22,27 +21,6 @@ pub struct Sender {
     pub limit: CodeblockLimit,
     /// Whether frames are randomized.
     pub randomizer: Randomizer,
-}
-
-impl CodeblockLimit {
-    /// The greatest count of codeblocks in a CLTU. Refused with 4 outside 1 to 147.
-    pub fn new(count: usize) -> Result<CodeblockLimit, Refusal>
-        ensures { made_count result ≡ limit_answer count }
-    {
-        if 1 <= count && count <= 147 {
-            Ok(CodeblockLimit { count })
-        } else {
-            Err(Refusal::CodeblockLimit)
-        }
-    }
-
-    /// The count.
-    pub fn count(self) -> usize
-        ensures value { result ≡ self.count }
-        ensures range { (1 ≤ result) × (result ≤ 147) }
-    {
-        self.count
-    }
 }
 
 /// How many codeblocks a frame of so many octets takes, seven octets each.
