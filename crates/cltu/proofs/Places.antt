@@ -1,13 +1,14 @@
 -- Where the octets of a CLTU stand. Assumes nothing.
-use Rattle.std.proofs.Common.{◌≡◌, ℕ, zero, suc, ◌+◌, ◌-◌, ◌*◌, ◌<◌, ◌≤◌, List, [], ◌∷◌, ◌++◌, length, get_or, take, drop, replicate, sym, refl, ap, ◌∙◌, ap₂, ⊎_elim, suc-add, zero-add, arith}
+use Rattle.std.proofs.Common.{◌≡◌, ℕ, zero, suc, ◌+◌, ◌-◌, ◌*◌, ◌<◌, ◌≤◌, List, [], ◌∷◌, ◌++◌, length, get_or, take, drop, replicate, sym, refl, ap, ◌∙◌, ap₂, ⊎_elim, suc-add, zero-add, arith, lit<}
 use lib.Bits.{bit_xor}
-use Rattle.std.proofs.lemmas.List.{append-nil, append_assoc, length-append, length-replicate, length-drop, length-take-le, get_or_append_left, get_or-append_right, get_or_default, get_or_past, get_or-replicate, take_at, drop_at, drop-drop, drop_more}
+use Rattle.std.proofs.lemmas.List.{append-nil, append_assoc, length-append, length-replicate, length-drop, length-take-le, get_or_append_left, get_or-append_right, get_or_default, get_or_past, get_or-replicate, get_or-take, get_or-drop, take_at, drop_at, drop-drop}
+use Rattle.std.proofs.lemmas.Simd.{pick_l_whole}
 use Rattle.std.proofs.lemmas.Bool.{cases_lt}
 use Rattle.bch.specs.Codeblock.{codeblock}
 use Rattle.randomizer.specs.declared.Randomizer.{Randomizer}
 use Rattle.randomizer.specs.Sequence.{added_at, randomized}
 use Rattle.randomizer.proofs.Laws.{length_randomized_from, get_or_randomized_from}
-use Rattle.cltu.specs.Cltu.{codeblocks_for, fill_for, filled, coded, start_sequence, tail_sequence, cltu}
+use Rattle.cltu.specs.Cltu.{codeblocks_for, fill_for, filled, coded, tail_sequence, cltu}
 
 pub length_filled : (frame : List ℕ) → length (filled frame) ≡ 7 * codeblocks_for (length frame)
 length_filled frame = simp (length-append, length-replicate) (omega arith)
@@ -33,18 +34,14 @@ module _ (r : Randomizer) (frame : List ℕ) where
       sym (get_or_randomized_from r 0 (filled frame) place within ∙ ap₂ bit_xor (filled_at frame place h) (ap (added_at r) (zero-add place)))
 
 -- a stretch of a list, octet by octet
-one_of : (n i j : ℕ) (xs : List ℕ) → j ≡ i + 1 → i < length xs → take (suc n) (drop i xs) ≡ get_or xs i 0 ∷ take n (drop j xs)
-one_of n i j xs e h = ap (take (suc n)) (drop_more xs i 0 h) ∙ ap (λ k. get_or xs i 0 ∷ take n (drop k xs)) (sym e)
-
-pub seven_of : (i : ℕ) (xs : List ℕ) → i + 7 ≤ length xs → get_or xs i 0 ∷ get_or xs (i + 1) 0 ∷ get_or xs (i + 2) 0 ∷ get_or xs (i + 3) 0 ∷ get_or xs (i + 4) 0 ∷ get_or xs (i + 5) 0 ∷ get_or xs (i + 6) 0 ∷ [] ≡ take 7 (drop i xs)
-seven_of i xs h =
-    sym (one_of 6 i (i + 1) xs refl (omega arith)
-    ∙ ap (λ l. get_or xs i 0 ∷ l) (one_of 5 (i + 1) (i + 2) xs (omega arith) (omega arith)
-    ∙ ap (λ l. get_or xs (i + 1) 0 ∷ l) (one_of 4 (i + 2) (i + 3) xs (omega arith) (omega arith)
-    ∙ ap (λ l. get_or xs (i + 2) 0 ∷ l) (one_of 3 (i + 3) (i + 4) xs (omega arith) (omega arith)
-    ∙ ap (λ l. get_or xs (i + 3) 0 ∷ l) (one_of 2 (i + 4) (i + 5) xs (omega arith) (omega arith)
-    ∙ ap (λ l. get_or xs (i + 4) 0 ∷ l) (one_of 1 (i + 5) (i + 6) xs (omega arith) (omega arith)
-    ∙ ap (λ l. get_or xs (i + 5) 0 ∷ l) (one_of 0 (i + 6) (i + 7) xs (omega arith) (omega arith))))))))
+pub seven_of : (i : ℕ) (ys xs : List ℕ) → length ys ≡ 7 → i + 7 ≤ length xs →
+    get_or ys 0 0 ≡ get_or xs (i + 0) 0 → get_or ys 1 0 ≡ get_or xs (i + 1) 0 → get_or ys 2 0 ≡ get_or xs (i + 2) 0 → get_or ys 3 0 ≡ get_or xs (i + 3) 0 →
+    get_or ys 4 0 ≡ get_or xs (i + 4) 0 → get_or ys 5 0 ≡ get_or xs (i + 5) 0 → get_or ys 6 0 ≡ get_or xs (i + 6) 0 → ys ≡ take 7 (drop i xs)
+seven_of i ys xs seven within a b c d e f g =
+    let there : (k : ℕ) → k < 7 → get_or xs (i + k) 0 ≡ get_or (take 7 (drop i xs)) k 0 = λ k h. sym (get_or-take 7 (drop i xs) k 0 h ∙ get_or-drop i xs k 0) in
+    sym (pick_l_whole 0 ys 7 seven)
+    ∙ (λ j. (a ∙ there 0 (lit< tt)) j ∷ (b ∙ there 1 (lit< tt)) j ∷ (c ∙ there 2 (lit< tt)) j ∷ (d ∙ there 3 (lit< tt)) j ∷ (e ∙ there 4 (lit< tt)) j ∷ (f ∙ there 5 (lit< tt)) j ∷ (g ∙ there 6 (lit< tt)) j ∷ [])
+    ∙ pick_l_whole 0 (take 7 (drop i xs)) 7 (length-take-le 7 (drop i xs) (omega (arith, length-drop i xs)))
 
 -- one codeblock more
 pub coded_more : (k : ℕ) (xs : List ℕ) → coded (k + 1) xs ≡ coded k xs ++ codeblock (take 7 (drop (7 * k) xs))
@@ -64,43 +61,17 @@ length_coded (suc k) xs h =
     let first = length_codeblock (take 7 xs) (length-take-le 7 xs (omega arith)) in
     omega (arith, length-append (codeblock (take 7 xs)) (coded k (drop 7 xs)), rest, first)
 
--- memory in whose front stands `front`, and the rest as it was: what is put right behind the front lengthens it
-pub put_behind : (front more was : List ℕ) (at : ℕ) → length front ≡ at →
-    take at (front ++ drop at was) ++ (more ++ drop (at + length more) (front ++ drop at was)) ≡ (front ++ more) ++ drop (at + length more) was
-put_behind front more was at e =
-    ap₂ (λ (xs ys : List ℕ). xs ++ (more ++ ys)) (take_at front (drop at was) at e)
-    (sym (drop-drop (length more) at (front ++ drop at was)) ∙ ap (drop (length more)) (drop_at front (drop at was) at e) ∙ drop-drop (length more) at was)
-    ∙ sym (append_assoc front more (drop (at + length more) was))
+-- memory in whose front the first codeblocks stand: the next one is put right behind them
+pub one_more : (k : ℕ) (xs was memory block : List ℕ) → 7 * (k + 1) ≤ length xs → memory ≡ coded k xs ++ drop (8 * k) was → block ≡ codeblock (take 7 (drop (7 * k) xs)) →
+    take (8 * k) memory ++ (block ++ drop (8 * k + 8 - 8 * k) (drop (8 * k) memory)) ≡ coded (k + 1) xs ++ drop (8 * (k + 1)) was
+one_more k xs was memory block within e put =
+    let long = length_coded k xs (omega arith) in
+    let eight : 8 * k + 8 - 8 * k ≡ 8 = omega arith in
+    let next : 8 * k + 8 ≡ 8 * (k + 1) = omega arith in
+    rw (e, eight, put, coded_more k xs, take_at (coded k xs) (drop (8 * k) was) (8 * k) long, drop_at (coded k xs) (drop (8 * k) was) (8 * k) long, drop-drop 8 (8 * k) was, next, append_assoc (coded k xs) (codeblock (take 7 (drop (7 * k) xs))) (drop (8 * (k + 1)) was))
 
 pub length_cltu : (r : Randomizer) (frame : List ℕ) → length (cltu r frame) ≡ 10 + 8 * codeblocks_for (length frame)
 length_cltu r frame =
     let count = codeblocks_for (length frame) in
     let xs = randomized r (filled frame) in
     omega (arith, length-append (coded count xs) tail_sequence, length_coded count xs (omega (arith, length_sent r frame)))
-
--- the three parts put one behind the other, into memory that held `was`
-pub parts_are_the_cltu : (r : Randomizer) (frame was started filled_in ended : List ℕ) (count : ℕ) → count ≡ codeblocks_for (length frame) →
-    started ≡ start_sequence ++ drop 2 was →
-    filled_in ≡ take 2 started ++ (coded count (randomized r (filled frame)) ++ drop (2 + 8 * count) started) →
-    ended ≡ take (2 + 8 * count) filled_in ++ (tail_sequence ++ drop (2 + 8 * count + 8) filled_in) →
-    ended ≡ cltu r frame ++ drop (length (cltu r frame)) was
-parts_are_the_cltu r frame was started filled_in ended count n e₁ e₂ e₃ =
-    e₃ ∙ ap (λ m. take (2 + 8 * count) m ++ (tail_sequence ++ drop (2 + 8 * count + 8) m)) two
-    ∙ put_behind (start_sequence ++ blocks) tail_sequence was (2 + 8 * count) (omega (arith, long))
-    ∙ ap (λ k. ((start_sequence ++ blocks) ++ tail_sequence) ++ drop k was) end
-    ∙ ap (λ l. l ++ drop (10 + 8 * count) was) (append_assoc start_sequence blocks tail_sequence ∙ ap (λ k. start_sequence ++ (coded k (randomized r (filled frame)) ++ tail_sequence)) n)
-    ∙ ap (λ k. cltu r frame ++ drop k was) (sym (length_cltu r frame ∙ ap (λ k. 10 + 8 * k) (sym n)))
-  where
-    blocks : List ℕ
-    blocks = coded count (randomized r (filled frame))
-
-    long : length blocks ≡ 8 * count
-    long = length_coded count (randomized r (filled frame)) (omega (arith, length_sent r frame))
-
-    end : 2 + 8 * count + 8 ≡ 10 + 8 * count
-    end = omega arith
-
-    two : filled_in ≡ (start_sequence ++ blocks) ++ drop (2 + 8 * count) was
-    two =
-        e₂ ∙ ap (λ m. take 2 m ++ (blocks ++ drop (2 + 8 * count) m)) e₁ ∙ ap (λ k. take 2 (start_sequence ++ drop 2 was) ++ (blocks ++ drop (2 + k) (start_sequence ++ drop 2 was))) (sym long)
-        ∙ put_behind start_sequence blocks was 2 refl ∙ ap (λ k. (start_sequence ++ blocks) ++ drop (2 + k) was) long

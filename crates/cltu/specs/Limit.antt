@@ -1,5 +1,5 @@
 -- The greatest count of codeblocks in a CLTU, and when a value for it is refused. Assumes nothing.
-use Rattle.std.specs.Prelude.{ℕ, cond, ◌&&◌, Ok, Err, Result, nat_le}
+use Rattle.std.specs.Prelude.{◌≡◌, ℕ, cond, ◌&&◌, Ok, Err, Result, nat_le}
 use Rattle.refusals.specs.declared.Refusal.{Refusal}
 use Rattle.refusals.specs.declared.Refusal.TheVariants.{CodeblockLimit as OutOfRange}
 use Rattle.cltu.specs.declared.limit.CodeblockLimit.{CodeblockLimit}
@@ -12,3 +12,7 @@ made_count (Err refusal) = Err refusal
 -- 1 to 147, and anything else is refused
 abbrev pub limit_answer : ℕ → Result ℕ Refusal
 limit_answer count = cond (nat_le 1 count && nat_le count 147) (Ok count) (Err OutOfRange)
+
+-- a conversion of a count made what its value answers
+abbrev pub MadeOf : ℕ → Result CodeblockLimit Refusal → Type 0
+MadeOf count made = made_count made ≡ limit_answer count

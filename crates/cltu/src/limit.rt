@@ -1,8 +1,49 @@
-ghost use Rattle.std.specs.Prelude.{◌≤◌};
+ghost use Rattle.std.specs.Prelude.{◌≡◌, ◌≤◌};
+
+use refusals::Refusal;
 
 /// The greatest count of codeblocks in a CLTU, from 1 to 147.
-#[derive(Clone, Copy)]
+#[derive(Clone, Copy, Debug, PartialEq, Eq)]
 pub struct CodeblockLimit {
-    pub(crate) count: usize,
+    count: usize,
     ghost range: { (1 ≤ count) × (count ≤ 147) },
+}
+
+/// The greatest count of codeblocks in a CLTU. Refused with 4 outside 1 to 147.
+impl TryFrom<usize> for CodeblockLimit {
+    ghost use Rattle.cltu.specs.Limit.{MadeOf};
+
+    type Error = Refusal;
+
+    ghost try_from_gives = { MadeOf };
+
+    fn try_from(count: usize) -> Result<Self, Refusal> {
+        if (1..=Self::MOST.count).contains(&count) {
+            Ok(CodeblockLimit { count })
+        } else {
+            Err(Refusal::CodeblockLimit)
+        }
+    }
+}
+
+impl CodeblockLimit {
+    ghost use Rattle.cltu.specs.Limit.{made_count, limit_answer};
+
+    /// As many codeblocks as any CLTU has.
+    pub const MOST: CodeblockLimit = CodeblockLimit { count: 147 };
+
+    /// The greatest count of codeblocks in a CLTU. Refused with 4 outside 1 to 147.
+    pub fn new(count: usize) -> Result<CodeblockLimit, Refusal>
+        ensures { made_count result ≡ limit_answer count }
+    {
+        CodeblockLimit::try_from(count)
+    }
+
+    /// The count.
+    pub fn count(self) -> usize
+        ensures value { result ≡ self.count }
+        ensures range { (1 ≤ result) × (result ≤ 147) }
+    {
+        self.count
+    }
 }

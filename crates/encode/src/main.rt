@@ -54,10 +54,10 @@ fn asked_task(rt: &HostRuntime) -> anyhow::Result<Task> {
 }
 
 fn encode(rt: &HostRuntime, randomizer: Randomizer) -> anyhow::Result<()> {
-    let Ok(limit) = CodeblockLimit::new(147) else {
-        return Err(anyhow!("encode: no such limit"));
+    let sender = Sender {
+        limit: CodeblockLimit::MOST,
+        randomizer,
     };
-    let sender = Sender { limit, randomizer };
     let heap = rt.alloc();
     let mut input = BufReader::new(heap, rt.stdin())?;
     let mut line = Vec::new(heap);

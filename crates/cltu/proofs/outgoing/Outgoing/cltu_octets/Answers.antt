@@ -1,0 +1,7 @@
+-- The length of a CLTU. Assumes nothing.
+use Rattle.std.proofs.Common.{arith}
+use Rattle.cltu.proofs.Places.{length_cltu}
+use Rattle.cltu.proofs.outgoing.Outgoing.cltu_octets.Goals as goal
+
+pub returns-clause-length : goal.returns-clause-length
+returns-clause-length c = omega (arith, length_cltu c.args.self.now.randomizer c.args.self.now.frame.now)

@@ -1,0 +1,86 @@
+ghost use Rattle.std.specs.Prelude.{◌≡◌, ◌+◌, ◌*◌, ◌<◌, ◌≤◌, length, take, drop, slice_index};
+ghost use Rattle.randomizer.specs.Sequence.{randomized};
+ghost use Rattle.cltu.specs.Cltu.{codeblocks_for, filled, coded, cltu};
+
+use crate::codeblocks_for;
+use coding::codeblock;
+use randomizer::Randomizer;
+use std::array;
+
+const START_SEQUENCE: [u8; 2] = [0xEB, 0x90];
+
+const TAIL_SEQUENCE: [u8; 8] = [0xC5, 0xC5, 0xC5, 0xC5, 0xC5, 0xC5, 0xC5, 0x79];
+
+const FILL: u8 = 0x55;
+
+/// A frame that a sender takes, on its way into a CLTU.
+#[derive(Clone, Copy)]
+pub(crate) struct Outgoing<'a> {
+    frame: &'a [u8],
+    randomizer: Randomizer,
+    // How many codeblocks hold the frame.
+    codeblocks: usize,
+    ghost short: { length frame.now ≤ 1024 },
+    ghost whole: { codeblocks ≡ codeblocks_for (length frame.now) },
+}
+
+impl<'a> Outgoing<'a> {
+    pub(crate) fn new(frame: &'a [u8], randomizer: Randomizer) -> Self
+        requires { length frame.now ≤ 1024 }
+        ensures frame { result.frame.now ≡ frame.now }
+        ensures randomizer { result.randomizer ≡ randomizer }
+    {
+        Outgoing {
+            frame,
+            randomizer,
+            codeblocks: codeblocks_for(frame.len()),
+        }
+    }
+
+    /// How many octets the CLTU has.
+    pub(crate) fn cltu_octets(&self) -> usize
+        ensures length { result ≡ length (cltu self.now.randomizer self.now.frame.now) }
+        ensures number { result ≡ 10 + 8 * self.now.codeblocks }
+    {
+        START_SEQUENCE.len() + 8 * self.codeblocks + TAIL_SEQUENCE.len()
+    }
+
+    // The octet at a place of the filled and randomized frame.
+    fn octet(&self, place: usize) -> u8
+        requires { place < 7 * self.now.codeblocks }
+        ensures { result ≡ slice_index (randomized self.now.randomizer (filled self.now.frame.now)) place }
+    {
+        self.frame.get(place).copied().unwrap_or(FILL) ^ self.randomizer.octet_at(place)
+    }
+
+    // The information of the codeblock at an index: seven octets of the filled and randomized frame.
+    fn information(&self, index: usize) -> [u8; 7]
+        requires { index < self.now.codeblocks }
+        ensures { result ≡ take 7 (drop (7 * index) (randomized self.now.randomizer (filled self.now.frame.now))) }
+    {
+        array::from_fn(|place| self.octet(7 * index + place))
+    }
+
+    // Puts the codeblocks into memory for just these.
+    fn put_codeblocks(&self, memory: &mut [u8])
+        requires { length memory.old ≡ 8 * self.now.codeblocks }
+        ensures { memory.new ≡ coded self.now.codeblocks (randomized self.now.randomizer (filled self.now.frame.now)) }
+    {
+        for index in 0..self.codeblocks {
+            let at = 8 * index;
+            memory[at..at + 8].copy_from_slice(&codeblock(self.information(index)));
+        }
+    }
+
+    /// Puts the CLTU into memory for just it.
+    pub(crate) fn put_cltu(&self, memory: &mut [u8])
+        requires { length memory.old ≡ 10 + 8 * self.now.codeblocks }
+        ensures { memory.new ≡ cltu self.now.randomizer self.now.frame.now }
+    {
+        let (start, rest) = memory.split_at_mut(START_SEQUENCE.len());
+        let (codeblocks, tail) = rest.split_at_mut(8 * self.codeblocks);
+        start.copy_from_slice(&START_SEQUENCE);
+        self.put_codeblocks(codeblocks);
+        tail.copy_from_slice(&TAIL_SEQUENCE);
+    }
+}
