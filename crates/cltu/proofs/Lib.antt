@@ -1,3 +1,2 @@
 -- Laws of CLTUs. Assumes nothing.
 pub mod Places
-pub mod Written

@@ -3,7 +3,7 @@
 
 use anyhow::anyhow;
 use cltu::{CodeblockLimit, Sender};
-use frame_lines::answer_line;
+use frame_lines::{Answer, answer_line};
 use randomizer::Randomizer;
 use std::env;
 use std::io::{BufRead, BufReader};
@@ -69,9 +69,9 @@ fn encode(rt: &HostRuntime, randomizer: Randomizer) -> anyhow::Result<()> {
             break;
         }
         let answer = answer_line(heap, sender, line_text(line.as_slice()))?;
-        rt.println(answer.text.as_str())?;
+        println!(rt; "{answer}")?;
         lines = lines.saturating_add(1);
-        if answer.is_cltu {
+        if matches!(answer, Answer::Cltu { .. }) {
             cltus = cltus.saturating_add(1);
         }
     }

@@ -1,22 +1,29 @@
--- The line that answers a line of text with a frame in it. Assumes nothing.
+-- The answer to a line of text with a frame in it, and the line that tells it. Assumes nothing.
 use Rattle.std.specs.Prelude.{◌≡◌, ℕ, Bool, true, false, List, ◌++◌, length, replicate, Some, None, Ok, Err, string_bytes, codes, decimal, Option, Result}
+use Rattle.std.specs.Option.{option_map}
 use Rattle.refusals.specs.declared.Refusal.{Refusal}
-use Rattle.refusals.specs.Numbers.{refusal_number}
+use Rattle.refusals.specs.Numbers.{refusal_text}
 use Rattle.cltu.specs.declared.Sender.{Sender}
 use Rattle.cltu.specs.Cltu.{codeblocks_for, fill_for}
 use Rattle.cltu.specs.Writing.{sent_cltu, writing_answer}
 use Rattle.frame_lines.specs.declared.Answer.{Answer}
+use Rattle.frame_lines.specs.declared.Answer.TheVariants.{Cltu, Refused, Unreadable}
 use Rattle.hexadecimal.specs.Text.{capital_digits}
 
 -- memory for the longest CLTU, that of 147 codeblocks
 abbrev pub longest : List ℕ
 longest = replicate 1186 0
 
+-- `cltu`, the codeblocks, the fill octets, the octets and all of these in digits
+abbrev pub cltu_text : (codeblocks fill octets : ℕ) (digits : List ℕ) → List ℕ
+cltu_text codeblocks fill octets digits =
+    codes "cltu " ++ (decimal codeblocks ++ (codes " " ++ (decimal fill ++ (codes " " ++ (decimal octets ++ (codes " " ++ digits))))))
+
 -- `cltu`, the codeblocks, the fill octets, the octets and all of these in capitals; or `refused` and the number
 abbrev pub frame_line : Sender → List ℕ → Result ℕ Refusal → List ℕ
 frame_line sender frame (Ok octets) =
-    codes "cltu " ++ (decimal (codeblocks_for (length frame)) ++ (codes " " ++ (decimal (fill_for (length frame)) ++ (codes " " ++ (decimal octets ++ (codes " " ++ capital_digits (sent_cltu sender frame)))))))
-frame_line sender frame (Err refusal) = codes "refused " ++ decimal (refusal_number refusal)
+    cltu_text (codeblocks_for (length frame)) (fill_for (length frame)) octets (capital_digits (sent_cltu sender frame))
+frame_line sender frame (Err refusal) = refusal_text refusal
 
 -- the answer to a line
 abbrev pub answer_line : Sender → Option (List ℕ) → List ℕ
@@ -32,7 +39,25 @@ abbrev pub answered_by_cltu : Sender → Option (List ℕ) → Bool
 answered_by_cltu sender None = false
 answered_by_cltu sender (Some frame) = sent (writing_answer sender frame longest)
 
--- an answer is the line for this frame, and says whether it is a CLTU
+-- the line that an answer prints as
+abbrev pub answer_text : Answer → List ℕ
+answer_text (Cltu codeblocks fill octets digits) = cltu_text codeblocks fill octets (string_bytes digits)
+answer_text (Refused refusal) = refusal_text refusal
+answer_text Unreadable = codes "unreadable"
+
+abbrev pub is_cltu : Answer → Bool
+is_cltu (Cltu codeblocks fill octets digits) = true
+is_cltu (Refused refusal) = false
+is_cltu Unreadable = false
+
+-- what writing the CLTU came to, where a frame was read
+abbrev pub outcome : Answer → Option (Result ℕ Refusal)
+outcome (Cltu codeblocks fill octets digits) = Some (Ok octets)
+outcome (Refused refusal) = Some (Err refusal)
+outcome Unreadable = None
+
+-- an answer prints as the line for this frame, and is the case that says what writing it came to
 pub record Answers (sender : Sender) (frame : Option (List ℕ)) (answer : Answer) : Type 0 where
-  pub text : string_bytes answer.text ≡ answer_line sender frame
-  pub kind : answer.is_cltu ≡ answered_by_cltu sender frame
+  pub text : answer_text answer ≡ answer_line sender frame
+  pub kind : is_cltu answer ≡ answered_by_cltu sender frame
+  pub came_to : outcome answer ≡ option_map (λ f. writing_answer sender f longest) frame

@@ -1,46 +1,54 @@
 //! Frames as lines of hexadecimal text, and the line that answers each.
 #![tactic(auto)]
 
-ghost use Rattle.std.specs.Prelude.{◌≡◌, ◌≤◌, ◌++◌, length, IfOk, Some, Ok, string_bytes, codes, decimal};
-ghost use Rattle.refusals.specs.Numbers.{refusal_number};
-ghost use Rattle.cltu.specs.Writing.{sent_cltu, writing_answer};
+ghost use Rattle.std.specs.Prelude.{IfOk, Some};
 ghost use Rattle.hexadecimal.specs.Text.{octets_written};
-ghost use Rattle.frame_lines.specs.Lines.{Answers, frame_line};
+ghost use Rattle.frame_lines.specs.Lines.{Answers, answer_text};
 
 use cltu::{Sender, codeblocks_for};
 use hexadecimal::{capitals, read_octets};
 use refusals::Refusal;
 use std::alloc::{AllocError, Global};
+use std::fmt;
 
 // The octets of the longest CLTU, that of 147 codeblocks.
 const LONGEST: usize = 1186;
 
-/// The answer to a line.
+/// The answer to a line. It prints as a line, without its end.
 #[derive(Debug, Drop)]
-pub struct Answer {
-    /// The line to print, without its end.
-    pub text: String,
-    /// Whether the line has a CLTU in it.
-    pub is_cltu: bool,
+pub enum Answer {
+    /// The CLTU of the frame.
+    Cltu {
+        /// How many codeblocks it has.
+        codeblocks: usize,
+        /// How many octets of fill it has.
+        fill: usize,
+        /// How many octets it has.
+        octets: usize,
+        /// Its octets in capital hexadecimal digits.
+        digits: String,
+    },
+    /// The sender refuses the frame.
+    Refused(Refusal),
+    /// The line is not whole octets of hexadecimal digits.
+    Unreadable,
 }
 
-fn refused_line(heap: Global, refusal: Refusal) -> Result<String, AllocError>
-    ensures { IfOk result (λ s. string_bytes s ≡ codes "refused " ++ decimal (refusal_number refusal)) }
-{
-    let number = refusal.number();
-    format!(in heap; "refused {number}")
-}
+impl fmt::Display for Answer {
+    ghost output = { λ answer. Some (answer_text answer) };
 
-// The line for a frame whose CLTU is these octets.
-fn cltu_line(heap: Global, sender: Sender, frame: &[u8], cltu: &[u8]) -> Result<String, AllocError>
-    requires { (cltu.now ≡ sent_cltu sender frame.now) × (length frame.now ≤ 1024) }
-    ensures { IfOk result (λ s. string_bytes s ≡ frame_line sender frame.now (Ok (length cltu.now))) }
-{
-    let codeblocks = codeblocks_for(frame.len());
-    let fill = 7 * codeblocks - frame.len();
-    let octets = cltu.len();
-    let digits = capitals(heap, cltu)?;
-    format!(in heap; "cltu {codeblocks} {fill} {octets} {digits}")
+    fn fmt<W: fmt::Write>(&self, f: &mut fmt::Formatter<W>) -> fmt::Result {
+        match self {
+            Answer::Cltu {
+                codeblocks,
+                fill,
+                octets,
+                digits,
+            } => write!(f, "cltu {codeblocks} {fill} {octets} {digits}"),
+            Answer::Refused(refusal) => write!(f, "{refusal}"),
+            Answer::Unreadable => f.write_str("unreadable"),
+        }
+    }
 }
 
 fn frame_answer(heap: Global, sender: Sender, frame: &[u8]) -> Result<Answer, AllocError>
@@ -49,19 +57,15 @@ fn frame_answer(heap: Global, sender: Sender, frame: &[u8]) -> Result<Answer, Al
     let mut memory = [0u8; LONGEST];
     match sender.write_cltu(frame, &mut memory) {
         Ok(octets) => {
-            let text = cltu_line(heap, sender, frame, &memory[0..octets])?;
-            Ok(Answer {
-                text,
-                is_cltu: true,
+            let codeblocks = codeblocks_for(frame.len());
+            Ok(Answer::Cltu {
+                codeblocks,
+                fill: 7 * codeblocks - frame.len(),
+                octets,
+                digits: capitals(heap, &memory[..octets])?,
             })
         }
-        Err(refusal) => {
-            let text = refused_line(heap, refusal)?;
-            Ok(Answer {
-                text,
-                is_cltu: false,
-            })
-        }
+        Err(refusal) => Ok(Answer::Refused(refusal)),
     }
 }
 
@@ -73,13 +77,7 @@ pub fn answer_line(heap: Global, sender: Sender, line: &[u8]) -> Result<Answer, 
 {
     match read_octets(heap, line)? {
         Some(frame) => frame_answer(heap, sender, frame.as_slice()),
-        None => {
-            let text = String::from_str(heap, "unreadable")?;
-            Ok(Answer {
-                text,
-                is_cltu: false,
-            })
-        }
+        None => Ok(Answer::Unreadable),
     }
 }
 
@@ -90,33 +88,32 @@ mod tests {
     use randomizer::Randomizer;
     use std::test::Fail;
 
-    fn sender(limit: usize, randomizer: Randomizer) -> Option<Sender> {
-        match CodeblockLimit::new(limit) {
-            Ok(limit) => Some(Sender { limit, randomizer }),
-            Err(_) => None,
-        }
-    }
-
     #[test]
     fn randomizer_and_limit(rt: HostRuntime) -> Result<(), Fail> {
         let heap = rt.alloc();
-        let Some(random) = sender(147, Randomizer::On) else {
-            assert!(rt; false);
-            return Ok(());
+        let random = Sender {
+            limit: CodeblockLimit::MOST,
+            randomizer: Randomizer::On,
         };
         let answer = answer_line(heap, random, b"00")?;
-        assert!(rt; answer.is_cltu);
+        assert!(rt; matches!(&answer, Answer::Cltu { .. }));
         assert_eq!(rt;
-            answer.text.as_str(),
+            answer.to_string(heap)?.as_str(),
             "cltu 1 6 18 EB90FF6CCB0F3DBC5330C5C5C5C5C5C5C579"
         );
-        let Some(small) = sender(1, Randomizer::Off) else {
-            assert!(rt; false);
-            return Ok(());
+        let small = Sender {
+            limit: CodeblockLimit::try_from(1usize)?,
+            randomizer: Randomizer::Off,
         };
         assert_eq!(rt;
-            answer_line(heap, small, b"0102030405060708")?.text.as_str(),
+            answer_line(heap, small, b"0102030405060708")?
+                .to_string(heap)?
+                .as_str(),
             "refused 1"
+        );
+        assert_eq!(rt;
+            answer_line(heap, small, b"5 5")?.to_string(heap)?.as_str(),
+            "unreadable"
         );
         Ok(())
     }

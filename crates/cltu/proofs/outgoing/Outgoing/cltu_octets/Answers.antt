@@ -1,7 +1,7 @@
 -- The length of a CLTU. Assumes nothing.
-use Rattle.std.proofs.Common.{arith}
+use Rattle.std.proofs.Common.{rules}
 use Rattle.cltu.proofs.Places.{length_cltu}
 use Rattle.cltu.proofs.outgoing.Outgoing.cltu_octets.Goals as goal
 
 pub returns-clause-length : goal.returns-clause-length
-returns-clause-length c = omega (arith, length_cltu c.args.self.now.randomizer c.args.self.now.frame.now)
+returns-clause-length c = search (rules, length_cltu)
