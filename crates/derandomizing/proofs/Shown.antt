@@ -1,5 +1,5 @@
 -- What shows through the layer. Assumes nothing.
-use Rattle.std.proofs.Common.{◌≡◌, ℕ, suc, ◌*◌, ◌/◌, cond, eqb, List, [], ◌∷◌, ◌++◌, length, Some, None, Option, sym, refl, ap, ◌∙◌, arith}
+use Rattle.std.proofs.Common.{◌≡◌, ℕ, zero, suc, ◌+◌, ◌*◌, ◌/◌, ◌<◌, take, drop, set, get_or, add-zero, cond, eqb, List, [], ◌∷◌, ◌++◌, length, Some, None, Option, sym, refl, ap, ◌∙◌, arith}
 use lib.Bits.{bit_xor, xor_zero_r}
 use Rattle.randomizer.specs.declared.Randomizer.TheVariants.{On}
 use Rattle.randomizer.specs.Sequence.{sequence_octet, randomized_from}
@@ -23,3 +23,16 @@ module _ (below : Showing) where
       let place : 7 * (length candidate / 7) ≡ length candidate = omega arith in
       ap (λ l. cond (eqb (free_space capacity finished (Some candidate)) 0) (Some candidate) (Some (candidate ++ l)))
       (ap (λ n. shown_from below (length candidate) (randomized_from On n octets)) place ∙ shown_derandomized (length candidate) octets)
+
+-- with the sequence added to one octet more
+pub randomized_more : (place i : ℕ) (octets : List ℕ) → i < length octets →
+    let so_far = randomized_from On place (take i octets) ++ drop i octets in
+    set so_far i (bit_xor (get_or so_far i 0) (sequence_octet (place + i))) ≡ randomized_from On place (take (i + 1) octets) ++ drop (i + 1) octets
+randomized_more place i [] h = absurd (omega arith)
+randomized_more place zero (x ∷ xs) h = ap (λ n. bit_xor x (sequence_octet n) ∷ xs) (add-zero place)
+randomized_more place (suc i) (x ∷ xs) h =
+    let on : place + suc i ≡ suc place + i = omega arith in
+    let past : suc (i + 1) ≡ suc i + 1 = omega arith in
+    let so_far = randomized_from On (suc place) (take i xs) ++ drop i xs in
+    ap (λ l. bit_xor x (sequence_octet place) ∷ l) (ap (λ n. set so_far i (bit_xor (get_or so_far i 0) (sequence_octet n))) on ∙ randomized_more (suc place) i xs (omega arith))
+    ∙ ap (λ n. randomized_from On place (take n (x ∷ xs)) ++ drop n (x ∷ xs)) past

@@ -19,21 +19,14 @@ pub struct Derandomizing<H> {
     below: H,
 }
 
-// The layer over a hold, with the law by which it matches a randomizing sender.
-fn layer<H: Hold>(below: H) -> Derandomizing<H>
-    ensures below { result.below ≡ below }
-    ensures matches { MatchesOver H.Hold.showing }
-{
-    Derandomizing { below }
-}
-
 impl<H: Hold> Derandomizing<H> {
     /// The layer over a hold, in whatever state that is.
+    #[tactic(auto, using(crate::proofs::Shown::matches_over))]
     pub fn over(below: H) -> Derandomizing<H>
         ensures below { result.below ≡ below }
         ensures matches { MatchesOver H.Hold.showing }
     {
-        layer(below)
+        Derandomizing { below }
     }
 
     /// Ends the layer and gives back the hold below it.
@@ -46,31 +39,15 @@ impl<H: Hold> Derandomizing<H> {
 }
 
 // Seven octets with the sequence added, from a place of a candidate on.
-fn derandomized(octets: [u8; 7], place: usize) -> [u8; 7]
+#[tactic(auto, using(crate::proofs::Shown::randomized_more))]
+fn derandomized(mut octets: [u8; 7], place: usize) -> [u8; 7]
     requires { place ≤ 7 * 65535 }
     ensures { result ≡ randomized_from On place octets }
 {
-    let [a, b, c, d, e, f, g] = octets;
-    [
-        a ^ sequence_octet(place),
-        b ^ sequence_octet(place + 1),
-        c ^ sequence_octet(place + 2),
-        d ^ sequence_octet(place + 3),
-        e ^ sequence_octet(place + 4),
-        f ^ sequence_octet(place + 5),
-        g ^ sequence_octet(place + 6),
-    ]
-}
-
-// Adds a codeblock to a hold with the sequence added to it, from the place on at which it will stand.
-fn add_derandomized<H: Hold>(below: &mut H, octets: [u8; 7], place: usize) -> Result<(), Refusal>
-    requires { place ≡ 7 * open_codeblocks (H.Hold.opened below.old) }
-    ensures answer { result ≡ add_answer (H.Hold.capacity below.old) (H.Hold.finished below.old) (H.Hold.opened below.old) }
-    ensures capacity { H.Hold.capacity below.new ≡ H.Hold.capacity below.old }
-    ensures finished { H.Hold.finished below.new ≡ H.Hold.finished below.old }
-    ensures opened { H.Hold.opened below.new ≡ after_add (derandomized H.Hold.showing) (H.Hold.capacity below.old) (H.Hold.finished below.old) (H.Hold.opened below.old) octets }
-{
-    below.add(derandomized(octets, place))
+    for (i, octet) in octets.iter_mut().enumerate() {
+        *octet ^= sequence_octet(place + i);
+    }
+    octets
 }
 
 impl<H: Hold> Hold for Derandomizing<H> {
@@ -90,9 +67,10 @@ impl<H: Hold> Hold for Derandomizing<H> {
         self.below.open()
     }
 
+    #[tactic(auto, using(crate::proofs::Shown::added_below))]
     fn add(&mut self, octets: [u8; 7]) -> Result<(), Refusal> {
         let place = 7 * self.below.open_codeblocks();
-        add_derandomized(&mut self.below, octets, place)
+        self.below.add(derandomized(octets, place))
     }
 
     fn finish(&mut self) -> Result<(), Refusal> {

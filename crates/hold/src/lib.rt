@@ -153,19 +153,10 @@ impl<'h, H: Hold> Hold for &'h mut H {
     }
 }
 
-// Copies the oldest finished candidate, which has so many octets, to the front of memory that is long enough.
-fn copy_whole<H: Hold>(hold: &H, memory: &mut [u8], octets: usize) -> Result<usize, Refusal>
-    requires { (oldest_length (H.Hold.finished hold.now) ≡ Ok octets) × (octets ≤ length memory.old) }
-    ensures answer { result ≡ copy_answer (H.Hold.finished hold.now) memory.old }
-    ensures memory { memory.new ≡ after_copy (H.Hold.finished hold.now) memory.old }
-{
-    hold.read_oldest(0, &mut memory[0..octets])?;
-    Ok(octets)
-}
-
 /// Copies the oldest finished candidate to the front of the memory and answers how many octets it
 /// has; the rest of the memory is as it was. Refused with 2 where the memory is too short for it, and
 /// with 7 where none waits; then the memory is as it was.
+#[tactic(auto, using(crate::proofs::Copies::copy_answered, crate::proofs::Copies::copied))]
 pub fn copy_oldest<H: Hold>(hold: &H, memory: &mut [u8]) -> Result<usize, Refusal>
     ensures answer { result ≡ copy_answer (H.Hold.finished hold.now) memory.old }
     ensures memory { memory.new ≡ after_copy (H.Hold.finished hold.now) memory.old }
@@ -174,5 +165,6 @@ pub fn copy_oldest<H: Hold>(hold: &H, memory: &mut [u8]) -> Result<usize, Refusa
     if memory.len() < octets {
         return Err(Refusal::MemoryTooShort);
     }
-    copy_whole(hold, memory, octets)
+    hold.read_oldest(0, &mut memory[..octets])?;
+    Ok(octets)
 }

@@ -4,17 +4,39 @@
 
 use derandomizing::Derandomizing;
 use hold::{Hold, copy_oldest};
-use randomizer::sequence_octet;
+use randomizer::Randomizer;
 use refusals::Refusal;
 use ring::{Cell, Ring};
-use std::alloc::{AllocError, Global};
+use std::alloc::{AllocError, AllocFailed, Global};
+use std::collections::VecDeque;
+
+/// Why the model does not do what is asked: it refuses, as a hold does, or memory is wanting.
+#[derive(Drop)]
+enum Failure {
+    Refused(Refusal),
+    NoMemory(AllocError),
+}
+
+impl From<Refusal> for Failure {
+    fn from(refusal: Refusal) -> Failure {
+        Failure::Refused(refusal)
+    }
+}
+
+impl<T: Drop> From<AllocFailed<T>> for Failure {
+    fn from(failed: AllocFailed<T>) -> Failure {
+        Failure::NoMemory(AllocError::from(failed))
+    }
+}
 
 /// What a hold should have, as plain lists.
 #[derive(Drop)]
 struct Model {
+    heap: Global,
     capacity: usize,
-    derandomizes: bool,
-    finished: Vec<Vec<u8>>,
+    // Of the sender whose sequence the hold takes off.
+    randomizer: Randomizer,
+    finished: VecDeque<Vec<u8>>,
     unfinished: Option<Vec<u8>>,
 }
 
@@ -30,28 +52,28 @@ impl Numbers {
 }
 
 impl Model {
-    fn new(heap: Global, capacity: usize, derandomizes: bool) -> Model {
+    fn new(heap: Global, capacity: usize, randomizer: Randomizer) -> Model {
         Model {
+            heap,
             capacity,
-            derandomizes,
-            finished: Vec::new(heap),
+            randomizer,
+            finished: VecDeque::new(heap),
             unfinished: None,
         }
     }
 
     fn held(&self) -> usize {
-        let mut octets: usize = 0;
-        for candidate in self.finished.iter() {
-            octets = octets.saturating_add(candidate.len());
-        }
+        let octets = self.finished.iter().fold(
+            0usize,
+            |octets, candidate| octets.saturating_add(candidate.len()),
+        );
         octets / 7
     }
 
     fn open_codeblocks(&self) -> usize {
-        match &self.unfinished {
-            Some(candidate) => candidate.len() / 7,
-            None => 0,
-        }
+        self.unfinished
+            .as_ref()
+            .map_or(0, |candidate| candidate.len() / 7)
     }
 
     fn free_space(&self) -> usize {
@@ -60,173 +82,174 @@ impl Model {
             .saturating_sub(self.open_codeblocks())
     }
 
-    fn open(&mut self, heap: Global) -> Result<(), Refusal> {
+    fn open(&mut self) -> Result<(), Refusal> {
         if self.unfinished.is_some() {
             return Err(Refusal::CandidateOpen);
         }
-        self.unfinished = Some(Vec::new(heap));
+        self.unfinished = Some(Vec::new(self.heap));
         Ok(())
     }
 
-    fn add(&mut self, octets: [u8; 7]) -> Result<Result<(), Refusal>, AllocError> {
+    fn add(&mut self, octets: [u8; 7]) -> Result<(), Failure> {
         let full = self.free_space() == 0;
-        let derandomizes = self.derandomizes;
-        let Some(candidate) = &mut self.unfinished else {
-            return Ok(Err(Refusal::NoCandidateOpen));
-        };
+        let randomizer = self.randomizer;
+        let candidate = self.unfinished.as_mut().ok_or(Refusal::NoCandidateOpen)?;
         if full {
-            return Ok(Err(Refusal::NoFreeSpace));
+            return Err(Failure::Refused(Refusal::NoFreeSpace));
         }
         for octet in octets {
-            let added = if derandomizes {
-                sequence_octet(candidate.len())
-            } else {
-                0
-            };
-            candidate.push(octet ^ added)?;
+            candidate.push(octet ^ randomizer.octet_at(candidate.len()))?;
         }
-        Ok(Ok(()))
+        Ok(())
     }
 
-    fn finish(&mut self) -> Result<Result<(), Refusal>, AllocError> {
-        match self.unfinished.take() {
-            None => Ok(Err(Refusal::NoCandidateOpen)),
-            Some(candidate) => {
-                if candidate.is_empty() {
-                    self.unfinished = Some(candidate);
-                    return Ok(Err(Refusal::CandidateEmpty));
-                }
-                self.finished.push(candidate)?;
-                Ok(Ok(()))
-            }
+    fn finish(&mut self) -> Result<(), Failure> {
+        let candidate = self.unfinished.take().ok_or(Refusal::NoCandidateOpen)?;
+        if candidate.is_empty() {
+            self.unfinished = Some(candidate);
+            return Err(Failure::Refused(Refusal::CandidateEmpty));
         }
+        self.finished.push_back(candidate)?;
+        Ok(())
     }
 
     fn abandon(&mut self) -> Result<(), Refusal> {
-        match self.unfinished.take() {
-            None => Err(Refusal::NoCandidateOpen),
-            Some(_) => Ok(()),
-        }
+        let _ = self.unfinished.take().ok_or(Refusal::NoCandidateOpen)?;
+        Ok(())
     }
 
     fn release(&mut self) -> Result<(), Refusal> {
-        if self.finished.is_empty() {
-            return Err(Refusal::NoCandidate);
-        }
-        let _ = self.finished.remove(0);
+        let _ = self.finished.pop_front().ok_or(Refusal::NoCandidate)?;
         Ok(())
     }
 
     fn oldest_octet(&self, place: usize) -> Result<u8, Refusal> {
-        match self.finished.first() {
-            None => Err(Refusal::NoCandidate),
-            Some(candidate) => candidate
-                .get(place)
-                .copied()
-                .ok_or(Refusal::PastCandidateEnd),
-        }
+        let candidate = self.finished.front().ok_or(Refusal::NoCandidate)?;
+        candidate
+            .get(place)
+            .copied()
+            .ok_or(Refusal::PastCandidateEnd)
     }
 }
 
-/// One operation, chosen by a number: whether hold and model answer alike.
-fn operation<H: Hold>(
-    heap: Global,
-    hold: &mut H,
-    model: &mut Model,
-    numbers: &mut Numbers,
-) -> Result<bool, AllocError> {
-    match numbers.next() % 16 {
-        0 | 1 => Ok(hold.open() == model.open(heap)),
-        2..=8 => {
-            let mut octets = [0u8; 7];
-            for octet in octets.iter_mut() {
-                *octet = (numbers.next() & 0xff) as u8;
+/// Whether the model answers what the hold answered.
+fn alike(answer: Result<(), Refusal>, model: Result<(), Failure>) -> Result<bool, AllocError> {
+    match model {
+        Ok(()) => Ok(answer == Ok(())),
+        Err(Failure::Refused(refusal)) => Ok(answer == Err(refusal)),
+        Err(Failure::NoMemory(error)) => Err(error),
+    }
+}
+
+/// A hold, the model of it, and the numbers that choose what is done to both.
+#[derive(Drop)]
+struct Trial<H> {
+    hold: H,
+    model: Model,
+    numbers: Numbers,
+}
+
+impl<H: Hold> Trial<H> {
+    /// One operation, chosen by a number: whether hold and model answer alike.
+    fn operation(&mut self) -> Result<bool, AllocError> {
+        match self.numbers.next() % 16 {
+            0 | 1 => Ok(self.hold.open() == self.model.open()),
+            2..=8 => {
+                let mut octets = [0u8; 7];
+                for octet in octets.iter_mut() {
+                    *octet = (self.numbers.next() & 0xff) as u8;
+                }
+                alike(self.hold.add(octets), self.model.add(octets))
             }
-            Ok(hold.add(octets) == model.add(octets)?)
-        }
-        9 | 10 => Ok(hold.finish() == model.finish()?),
-        11 => Ok(hold.abandon() == model.abandon()),
-        _ => Ok(hold.release() == model.release()),
-    }
-}
-
-/// The questions, and the oldest candidate in three ways: whether hold and model answer alike.
-fn questions<H: Hold>(hold: &H, model: &Model, place: usize) -> bool {
-    if hold.free_space() != model.free_space()
-        || hold.open_codeblocks() != model.open_codeblocks()
-        || hold.finished_count() != model.finished.len()
-        || hold.oldest_octet(place) != model.oldest_octet(place)
-    {
-        return false;
-    }
-    let mut memory = [0xEEu8; 64];
-    let copied = copy_oldest(hold, &mut memory);
-    match model.finished.first() {
-        None => copied == Err(Refusal::NoCandidate) && memory == [0xEEu8; 64],
-        Some(candidate) => {
-            hold.oldest_length() == Ok(candidate.len())
-                && copied == Ok(candidate.len())
-                && memory.get(0..candidate.len()) == Some(candidate.as_slice())
-                && read_stretch(hold, candidate.as_slice(), place)
+            9 | 10 => alike(self.hold.finish(), self.model.finish()),
+            11 => Ok(self.hold.abandon() == self.model.abandon()),
+            _ => Ok(self.hold.release() == self.model.release()),
         }
     }
-}
 
-/// Three octets from a place on, or a refusal and the memory as it was.
-fn read_stretch<H: Hold>(hold: &H, candidate: &[u8], place: usize) -> bool {
-    let mut memory = [0xEEu8; 3];
-    let read = hold.read_oldest(place, &mut memory);
-    match candidate.get(place..place.saturating_add(3)) {
-        Some(stretch) => read == Ok(()) && stretch == &memory[0..3],
-        None => read == Err(Refusal::PastCandidateEnd) && memory == [0xEEu8; 3],
+    /// The questions, and the oldest candidate in three ways: whether hold and model answer alike.
+    fn questions(&self, place: usize) -> bool {
+        self.hold.free_space() == self.model.free_space()
+            && self.hold.open_codeblocks() == self.model.open_codeblocks()
+            && self.hold.finished_count() == self.model.finished.len()
+            && self.hold.oldest_octet(place) == self.model.oldest_octet(place)
+            && self.copies(place)
+    }
+
+    /// The oldest candidate's length, a copy of it, and a stretch.
+    fn copies(&self, place: usize) -> bool {
+        let mut memory = [0xEEu8; 64];
+        let copied = copy_oldest(&self.hold, &mut memory);
+        match self.model.finished.front() {
+            None => copied == Err(Refusal::NoCandidate) && memory == [0xEEu8; 64],
+            Some(candidate) => {
+                self.hold.oldest_length() == Ok(candidate.len())
+                    && copied == Ok(candidate.len())
+                    && memory.get(0..candidate.len()) == Some(candidate.as_slice())
+                    && self.stretch(candidate.as_slice(), place)
+            }
+        }
+    }
+
+    /// Three octets from a place on, or a refusal and the memory as it was.
+    fn stretch(&self, candidate: &[u8], place: usize) -> bool {
+        let mut memory = [0xEEu8; 3];
+        let read = self.hold.read_oldest(place, &mut memory);
+        match candidate.get(place..place.saturating_add(3)) {
+            Some(stretch) => read == Ok(()) && stretch == &memory[0..3],
+            None => read == Err(Refusal::PastCandidateEnd) && memory == [0xEEu8; 3],
+        }
+    }
+
+    /// How many of so many operations were answered otherwise than by the model.
+    fn otherwise(&mut self, operations: u32) -> Result<u32, AllocError> {
+        let mut otherwise: u32 = 0;
+        for _ in 0..operations {
+            let alike = self.operation()?;
+            let place = (self.numbers.next() % 40) as usize;
+            if !alike || !self.questions(place) {
+                otherwise = otherwise.saturating_add(1);
+            }
+        }
+        Ok(otherwise)
     }
 }
 
-/// How many of so many operations were answered otherwise than by the model.
-fn trial<H: Hold>(
-    heap: Global,
-    hold: &mut H,
-    model: &mut Model,
+/// Does so many operations to an empty hold and to the model of it, and prints how they were answered.
+fn tried<H: Hold + Drop>(
+    rt: &HostRuntime,
+    what: &str,
+    hold: H,
+    model: Model,
     operations: u32,
-) -> Result<u32, AllocError> {
-    let mut numbers = Numbers(1);
-    let mut otherwise: u32 = 0;
-    for _ in 0..operations {
-        let alike = operation(heap, hold, model, &mut numbers)?;
-        let place = (numbers.next() % 40) as usize;
-        if !alike || !questions(hold, model, place) {
-            otherwise = otherwise.saturating_add(1);
-        }
-    }
-    Ok(otherwise)
+) -> anyhow::Result<()> {
+    let mut trial = Trial {
+        hold,
+        model,
+        numbers: Numbers(1),
+    };
+    let otherwise = trial.otherwise(operations)?;
+    println!(rt;
+        "{what}: {operations} operations, {otherwise} answered otherwise than by the model"
+    )?;
+    Ok(())
 }
 
 fn main(rt: HostRuntime) -> anyhow::Result<()> {
     let heap = rt.alloc();
     let mut cells = [Cell::EMPTY; 5];
-    let mut ring = Ring::new(&mut cells);
-    let mut model = Model::new(heap, 5, false);
-    let otherwise = trial(heap, &mut ring, &mut model, 20000)?;
-    println!(rt;
-        "ring of 5 cells: 20000 operations, {otherwise} answered otherwise than by the model"
-    )?;
+    let ring = Ring::new(&mut cells);
+    let model = Model::new(heap, 5, Randomizer::Off);
+    tried(&rt, "ring of 5 cells", ring, model, 20000)?;
 
     let mut cells = [Cell::EMPTY; 5];
-    let mut ring = Ring::new(&mut cells);
-    let mut layer = Derandomizing::over(&mut ring);
-    let mut model = Model::new(heap, 5, true);
-    let otherwise = trial(heap, &mut layer, &mut model, 20000)?;
-    let _ = layer.into_below();
-    println!(rt;
-        "layer over a ring of 5 cells: 20000 operations, {otherwise} answered otherwise than by the model"
-    )?;
+    let layer = Derandomizing::over(Ring::new(&mut cells));
+    let model = Model::new(heap, 5, Randomizer::On);
+    tried(&rt, "layer over a ring of 5 cells", layer, model, 20000)?;
 
     let mut cells = [Cell::EMPTY; 0];
-    let mut ring = Ring::new(&mut cells);
-    let mut model = Model::new(heap, 0, false);
-    let otherwise = trial(heap, &mut ring, &mut model, 2000)?;
-    println!(rt;
-        "ring of no cells: 2000 operations, {otherwise} answered otherwise than by the model"
-    )?;
+    let ring = Ring::new(&mut cells);
+    let model = Model::new(heap, 0, Randomizer::Off);
+    tried(&rt, "ring of no cells", ring, model, 2000)?;
     Ok(())
 }

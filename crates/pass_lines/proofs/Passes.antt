@@ -7,7 +7,7 @@ use Rattle.std.proofs.lemmas.Option.{slice_get-get_or, slice_get_past}
 use Rattle.std.proofs.lemmas.Bool.{cases_lt}
 use Rattle.hold.specs.declared.Hold.{Ghosts}
 use Rattle.hold.specs.Candidates.{Showing}
-use Rattle.queue.specs.declared.Queue.{Queue}
+use Rattle.queue.specs.declared.slots.Queue.{Queue}
 use Rattle.queue.specs.Waiting.{waiting, capacity, Taken}
 use Rattle.reception.specs.declared.Report.{Report}
 use Rattle.reception.specs.Rules.{Settings, Held, Decoded, goes_on, ends, decoded, Phase, INACTIVE, SEARCH, DECODE, State, Event, carrier_up, carrier_down, symbol, release, next_count, next_window, bit_value, is_start, at_window, at_codeblock, at_word, at_event}

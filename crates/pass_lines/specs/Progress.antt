@@ -5,7 +5,7 @@ use Rattle.hold.specs.Candidates.{Showing}
 use Rattle.reception.specs.declared.Report.{Report}
 use Rattle.reception.specs.Rules.{Settings, State, state, releasing, Event, Outcome, at_event}
 use Rattle.reception.specs.Counting.{counted}
-use Rattle.queue.specs.declared.Queue.{Queue}
+use Rattle.queue.specs.declared.slots.Queue.{Queue}
 use Rattle.queue.specs.Waiting.{waiting, capacity}
 use Rattle.decoding.specs.Meaning.{rules_of}
 use Rattle.receiver.specs.declared.state.Receiver.{Receiver}

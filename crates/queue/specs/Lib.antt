@@ -1,3 +1,2 @@
--- What waits in a queue, and where. Assumes nothing.
+-- What waits in a queue. Assumes nothing.
 pub mod Waiting
-pub mod Places

@@ -1,14 +1,11 @@
 -- The records that wait in a queue, and what a put and a take make of them. Assumes nothing.
-use Rattle.std.specs.Prelude.{◌≡◌, ℕ, ◌<◌, List, [], ◌∷◌, ◌++◌, length, take, drop}
+use Rattle.std.specs.Prelude.{◌≡◌, ℕ, ◌<◌, List, [], ◌∷◌, ◌++◌, length, take}
 use Rattle.refusals.specs.declared.Refusal.{Refusal}
 use Rattle.refusals.specs.declared.Refusal.TheVariants.{QueueFull, QueueEmpty}
-use Rattle.queue.specs.declared.Queue.{Queue}
+use Rattle.circular.specs.Circle.{round_from}
+use Rattle.queue.specs.declared.slots.Queue.{Queue}
 
 module _ {X : Type 0} where
-  -- every slot once, from a place on: after the last comes the first, for which a place past the last stands too
-  abbrev pub round_from : ℕ → List X → List X
-  round_from place slots = drop place slots ++ take place slots
-
   -- the records that wait, oldest first
   abbrev pub waiting : Queue X → List X
   waiting q = take q.count (round_from q.first q.slots.now)

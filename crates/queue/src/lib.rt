@@ -1,23 +1,16 @@
 //! One queue in lent memory, for any plain record: no allocation, and constant time for each call.
 #![tactic(auto)]
 
-ghost use Rattle.std.specs.Prelude.{◌≡◌, ◌+◌, ◌<◌, ◌≤◌, [], length, MatchOption, MatchResult};
+ghost use Rattle.std.specs.Prelude.{◌≡◌, ◌≤◌, [], length, MatchResult};
+ghost use Rattle.circular.specs.Circle.{Turned};
 ghost use Rattle.queue.specs.Waiting.{waiting, capacity, Put, RefusedFull, Taken, RefusedEmpty};
-ghost use Rattle.queue.specs.Places.{PlaceAfter, FreePlace, OldestPlace};
 
+use circular::place_after;
 use refusals::Refusal;
 
-/// Records that wait in a ring of lent slots, to be taken in the order in which they were put.
-// Every value of `first` and `count` has a meaning, and the calls keep to it, so that no invariant is
-// needed: the checker does not cover a struct by value that holds one with an invariant and a `&mut`.
-#[derive(Drop)]
-pub struct Queue<'a, T> {
-    slots: &'a mut [T],
-    // The place of the oldest record. Past the last slot it stands for the first.
-    first: usize,
-    // How many records wait, or more than there are slots where all of them are taken.
-    count: usize,
-}
+mod slots;
+
+pub use slots::Queue;
 
 impl<'a, T: Copy> Queue<'a, T> {
     /// A queue over these slots in which nothing waits. What the slots hold does not show.
@@ -39,82 +32,52 @@ impl<'a, T: Copy> Queue<'a, T> {
         self.slots.len()
     }
 
-    // The number of slots where no record waits.
-    fn free(&self) -> usize
-        ensures { result + length (waiting self.now) ≡ capacity self.now }
-    {
-        self.capacity().saturating_sub(self.count)
-    }
-
     /// How many records wait.
+    #[tactic(auto, using(crate::proofs::Turns::length_waiting))]
     pub fn len(&self) -> usize
         ensures records { result ≡ length (waiting self.now) }
         ensures within { result ≤ capacity self.now }
     {
-        self.capacity() - self.free()
+        self.count
     }
 
     // The place of the slot that comes so many after the oldest record's. After the last comes the first.
     fn place(&self, turn: usize) -> usize
-        requires { turn < capacity self.now }
-        ensures { PlaceAfter self.now turn result }
+        ensures { Turned (capacity self.now) self.now.first turn result }
     {
-        let to_the_end = self.capacity().saturating_sub(self.first);
-        if turn < to_the_end {
-            self.first + turn
-        } else {
-            turn - to_the_end
-        }
-    }
-
-    // The place where a record waits behind all others.
-    fn free_place(&self) -> usize
-        requires { length (waiting self.now) < capacity self.now }
-        ensures { FreePlace self.now result }
-    {
-        self.place(self.len())
-    }
-
-    // The place of the record that waits longest.
-    fn oldest_place(&self) -> Option<usize>
-        ensures { MatchOption result (waiting self.now ≡ []) (OldestPlace self.now) }
-    {
-        if self.len() == 0 {
-            None
-        } else {
-            Some(self.place(0))
-        }
+        place_after(self.capacity(), self.first, turn)
     }
 
     /// Puts a record behind all that wait. Refused with `QueueFull` exactly where as many records wait
     /// as there are slots, and then the queue is as it was.
+    #[tactic(auto, using(crate::proofs::Turns::put_behind, crate::proofs::Turns::length_waiting))]
     pub fn put(&mut self, record: T) -> Result<(), Refusal>
         ensures answer { MatchResult result (λ _. Put self.old «record» self.new) (RefusedFull self.old self.new) }
         ensures capacity { capacity self.new ≡ capacity self.old }
     {
-        if self.free() == 0 {
+        let waiting = self.len();
+        if waiting == self.capacity() {
             return Err(Refusal::QueueFull);
         }
-        let waiting = self.len();
-        let place = self.free_place();
+        let place = self.place(waiting);
         self.slots[place] = record;
-        self.count = waiting + 1;
+        self.count += 1;
         Ok(())
     }
 
     /// Takes the record that waits longest. Refused with `QueueEmpty` exactly where none waits, and
     /// then the queue is as it was.
+    #[tactic(auto, using(crate::proofs::Turns::oldest_first))]
     pub fn take(&mut self) -> Result<T, Refusal>
         ensures answer { MatchResult result (λ x. Taken self.old x self.new) (RefusedEmpty self.old self.new) }
         ensures capacity { capacity self.new ≡ capacity self.old }
     {
-        let Some(place) = self.oldest_place() else {
+        if self.count == 0 {
             return Err(Refusal::QueueEmpty);
-        };
-        let waiting = self.len();
-        let oldest = self.slots[place];
-        self.first = place + 1;
-        self.count = waiting - 1;
+        }
+        let oldest = self.slots[self.place(0)];
+        self.first = self.place(1);
+        self.count -= 1;
         Ok(oldest)
     }
 }

@@ -2,7 +2,7 @@
 use Rattle.std.proofs.Common.{◌≡◌, ℕ, zero, suc, ◌+◌, ◌-◌, ◌≤◌, min, List, [], ◌∷◌, ◌++◌, length, take, sym, refl, ap, ◌∙◌, ap₂, append_assoc, append-nil, arith}
 use lib.Seq.{take-nil}
 use Rattle.std.proofs.lemmas.List.{length-append, length-take}
-use Rattle.queue.specs.declared.Queue.{Queue}
+use Rattle.queue.specs.declared.slots.Queue.{Queue}
 use Rattle.queue.specs.Waiting.{waiting}
 use Rattle.reception.specs.declared.Report.{Report}
 use Rattle.reception.specs.Calls.{lost_after}

@@ -4,7 +4,7 @@ use Rattle.std.proofs.lemmas.List.{length-append}
 use Rattle.refusals.specs.declared.Refusal.TheVariants.{CarrierDown}
 use Rattle.hold.specs.declared.Hold.{Ghosts}
 use Rattle.hold.specs.Candidates.{Showing}
-use Rattle.queue.specs.declared.Queue.{Queue}
+use Rattle.queue.specs.declared.slots.Queue.{Queue}
 use Rattle.reception.specs.declared.Report.{Report}
 use Rattle.reception.specs.Rules.{Settings, Held, Phase, INACTIVE, SEARCH, DECODE, State, state, Event, at_up, at_event}
 use Rattle.reception.specs.Runs.{after_events, reports_of}

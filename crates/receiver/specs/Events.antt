@@ -3,7 +3,7 @@ use Rattle.std.specs.Prelude.{◌≡◌, List, [], ◌++◌, Some, None, Ok, Err
 use Rattle.std.specs.Option.{option_to_list}
 use Rattle.refusals.specs.declared.Refusal.{Refusal}
 use Rattle.hold.specs.declared.Hold.{Ghosts}
-use Rattle.queue.specs.declared.Queue.{Queue}
+use Rattle.queue.specs.declared.slots.Queue.{Queue}
 use Rattle.queue.specs.Waiting.{waiting, capacity}
 use Rattle.reception.specs.declared.Report.{Report}
 use Rattle.reception.specs.Rules.{Outcome, at_event, Event}

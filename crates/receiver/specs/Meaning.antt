@@ -1,7 +1,7 @@
 -- What a receiver means: a state of the rules of reception. Assumes nothing.
 use Rattle.std.specs.Prelude.{ℕ, ◌-◌, List, length}
 use Rattle.hold.specs.declared.Hold.{Ghosts}
-use Rattle.queue.specs.declared.Queue.{Queue}
+use Rattle.queue.specs.declared.slots.Queue.{Queue}
 use Rattle.queue.specs.Waiting.{waiting, capacity}
 use Rattle.reception.specs.declared.Report.{Report}
 use Rattle.reception.specs.Rules.{State, state, Event, carrier_up, carrier_down, symbol}

@@ -138,9 +138,6 @@ module _ (settings : Settings) (showing : Showing) where
   seven_long : (octets : List ℕ) (n : ℕ) → 7 * suc n ≡ length octets → length (take 7 octets) ≡ 7
   seven_long octets n e = length-take-le 7 octets (omega arith)
 
-  abbrev one_block : Held → ℕ → List ℕ → Bool → State
-  one_block g k octets c = state (DECODE 0 0 (k + bit_value c)) (adding showing g (take 7 octets))
-
   -- one codeblock is added
   block_added : (block : List Bool) (octets : List ℕ) (n : ℕ) (h g : Held) (k : ℕ) → length block ≡ 64 → wrong_bits (sent (take 7 octets)) (value block) ≤ block_tolerance M → AllBelowBase 256 octets → 7 * suc n ≡ length octets →
       added h + suc n ≤ settings.limit → suc n ≤ room h → Released h g → (c : Bool) × (at_codeblock (decoded settings showing g k (value block)) ≡ quietly (DECODE 0 0 (k + bit_value c)) (adding showing g (take 7 octets)))

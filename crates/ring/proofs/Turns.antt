@@ -2,14 +2,15 @@
 use Rattle.std.proofs.Common.{◌≡◌, ℕ, zero, suc, ◌+◌, ◌-◌, ◌*◌, ◌/◌, ◌%◌, ◌<◌, ◌≤◌, true, false, eqb, ltb, leb, List, [], ◌∷◌, ◌++◌, length, get_or, take, drop, Some, None, Ok, Option, sym, refl, ap, ◌∙◌, ⊎_elim, arith}
 use Rattle.std.proofs.lemmas.List.{length-take-le, length-drop, get_or-take, take-append-le, drop-append-le, drop-drop, drop-take}
 use Rattle.std.proofs.lemmas.Bool.{cases_eq, cond-true, cond-false, lt-ltb, le-ltb, le-leb, lt-leb, eq-eqb, ne_eqb, or_left, or_right, or_from}
+use Rattle.circular.specs.Circle.{round_from, Turned}
+use Rattle.circular.proofs.Rounds.{length_round_from, turned_within, round_from_on, get_or_turned}
 use Rattle.hold.specs.Candidates.{finished_codeblocks, open_codeblocks, lies_within, oldest_length, oldest_octet, stretch_answer, after_stretch, after_release, release_answer}
 use Rattle.ring.specs.declared.cells.Cell.{Cell}
 use Rattle.ring.specs.declared.cells.Ring.{Ring}
-use Rattle.ring.specs.Cells.{round_from, octets_of, first_count, grouped, parted, added, unfinished_in}
-use Rattle.ring.specs.Held.{in_turn, capacity_of, finished_in, opened_in, oldest_of, PlaceAfter, Oldest, BehindOldest}
-use Rattle.ring.specs.Sound.{length_round_from, length_octets_take, finished_codeblocks_used, open_codeblocks_added}
-use Rattle.ring.proofs.Rounds.{round_from_on, get_or_turned}
-use Rattle.ring.proofs.Groups.{get_or_octets_of, few_parts, First, first_of}
+use Rattle.ring.specs.Cells.{octets_of, first_count, grouped, parted, added, unfinished_in}
+use Rattle.ring.specs.Held.{in_turn, capacity_of, finished_in, opened_in, oldest_of, Oldest, BehindOldest}
+use Rattle.ring.specs.Sound.{length_octets_take, finished_codeblocks_used, open_codeblocks_added}
+use Rattle.ring.proofs.Groups.{get_or_octets_of, length_grouped, few_parts, First, first_of}
 
 abbrev blank : Cell
 blank = record { octets = []; codeblocks = 0 }
@@ -70,16 +71,16 @@ module _ (ring : Ring) where
           kept_past = λ place memory h. ap (λ fs. after_stretch fs place memory) held ∙ cond-false (lies_within place (length memory) candidate) _ _ (outside place (length memory) h);
         }
 
-    pub counted_first : (place : ℕ) → PlaceAfter ring 0 place → (get_or ring.cells.now place blank).codeblocks ≡ first_count used_cells
+    pub counted_first : (place : ℕ) → Turned (capacity_of ring) ring.first 0 place → (get_or ring.cells.now place blank).codeblocks ≡ first_count used_cells
     counted_first place after =
         let any : 0 < capacity_of ring = omega (arith, few_wait, ring.within) in
         ap (λ cell. cell.codeblocks)
-        (get_or_turned ring.cells.now ring.first 0 place blank ring.placed any (after.below any) after.turned
+        (get_or_turned ring.cells.now ring.first 0 place blank any after
         ∙ sym (get_or-take ring.used (in_turn ring) 0 blank (omega (arith, few_wait))))
         ∙ sym (first_count_get_or used_cells)
 
     -- the octet at a place of the oldest candidate is in the cell that comes a seventh as far
-    pub octet_at : (place cell : ℕ) → place < length (oldest_of (finished_in ring)) → PlaceAfter ring (place / 7) cell →
+    pub octet_at : (place cell : ℕ) → place < length (oldest_of (finished_in ring)) → Turned (capacity_of ring) ring.first (place / 7) cell →
         get_or (get_or ring.cells.now cell blank).octets (place % 7) 0 ≡ get_or (oldest_of (finished_in ring)) place 0
     octet_at place cell h after =
         let c = first_count used_cells in
@@ -87,7 +88,7 @@ module _ (ring : Ring) where
         let before : place / 7 < c = omega (arith, length_oldest) in
         let turn : place / 7 < capacity_of ring = omega (arith, length_used_cells, ring.within) in
         ap (λ x. get_or x.octets (place % 7) 0)
-        (get_or_turned ring.cells.now ring.first (place / 7) cell blank ring.placed turn (after.below turn) after.turned
+        (get_or_turned ring.cells.now ring.first (place / 7) cell blank turn after
         ∙ sym (get_or-take c used_cells (place / 7) blank before ∙ get_or-take ring.used (in_turn ring) (place / 7) blank (omega (arith, length_used_cells))))
         ∙ sym (ap (λ fs. get_or (oldest_of fs) place 0) oldest_first.candidates ∙ get_or_octets_of (take c used_cells) place blank (omega (arith, length_oldest, length-take-le c used_cells few)))
 
@@ -121,13 +122,13 @@ module _ (ring : Ring) where
         ∙ sym (ap (λ fs. after_stretch fs place memory) held ∙ cond-true _ _ _ (within_oldest place memory h))
 
     -- behind the oldest candidate's last cell the others begin
-    pub behind_oldest : (n place : ℕ) → n ≡ first_count used_cells → PlaceAfter ring n place → BehindOldest ring n place
+    pub behind_oldest : (n place : ℕ) → n ≡ first_count used_cells → Turned (capacity_of ring) ring.first n place → BehindOldest ring n place
     behind_oldest n place counted after =
         let round = in_turn ring in
         let used = ring.used in
         let fewer : n ≤ used = omega (arith, oldest_first.within, length_used_cells) in
         let fewer_cells : used ≤ length round = omega (arith, length_in_turn, ring.within) in
-        let on = round_from_on ring.cells.now ring.first n place ring.placed (omega (arith, length_in_turn)) after.within after.turned in
+        let on = round_from_on ring.cells.now ring.first n place (omega (arith, length_in_turn)) after in
         let rest : take (used - n) (round_from place ring.cells.now) ≡ drop (first_count used_cells) used_cells =
         let back : n + (used - n) ≡ used = omega arith in
         ap (take (used - n)) on ∙ take-append-le (used - n) (drop n round) (take n round) (omega (arith, length-drop n round))
@@ -138,7 +139,7 @@ module _ (ring : Ring) where
         ∙ ap (λ l. l ++ take n round) (drop-drop (used - n) n round ∙ ap (λ k. drop k round) back) in
         record {
           answer = ap release_answer oldest_first.candidates;
-          within = after.within;
+          within = turned_within ring.cells.now ring.first n place (omega (arith, length_in_turn)) after;
           finished = ap (grouped (ring.waiting - 1)) rest ∙ sym (ap after_release oldest_first.candidates);
           whole = ap (parted (ring.waiting - 1)) rest ∙ oldest_first.whole;
           opened = ap (unfinished_in ring.unfinished) open_cells ∙ same_open ring.unfinished (drop used round) (take n round) (omega (arith, length-drop used round, length_in_turn, ring.within));
@@ -147,3 +148,22 @@ module _ (ring : Ring) where
         same_open : (unfinished : Option ℕ) (cells others : List Cell) → added unfinished ≤ length cells → unfinished_in unfinished (cells ++ others) ≡ unfinished_in unfinished cells
         same_open None cells others h = refl
         same_open (Some k) cells others h = ap (λ l. Some (octets_of l)) (take-append-le k cells others h)
+
+  pub length_finished : ring.waiting ≡ length (finished_in ring)
+  length_finished = sym (length_grouped ring.waiting used_cells)
+
+  pub oldest_counted : (place : ℕ) → 0 < ring.waiting → Turned (capacity_of ring) ring.first 0 place → Oldest ring (get_or ring.cells.now place blank).codeblocks
+  oldest_counted place some after = is_oldest some _ (counted_first some place after)
+
+  pub octet_value : (place cell : ℕ) → place < length (oldest_of (finished_in ring)) → Turned (capacity_of ring) ring.first (place / 7) cell →
+      get_or (get_or ring.cells.now cell blank).octets (place % 7) 0 ≡ get_or (oldest_of (finished_in ring)) place 0
+  octet_value place cell h after = octet_at (some_wait ring.waiting used_cells (omega arith)) place cell h after
+
+  pub octet_answered : (place cell : ℕ) → place < length (oldest_of (finished_in ring)) → Turned (capacity_of ring) ring.first (place / 7) cell →
+      oldest_octet (finished_in ring) place ≡ Ok (get_or (get_or ring.cells.now cell blank).octets (place % 7) 0)
+  octet_answered place cell h after = octet_answer (some_wait ring.waiting used_cells (omega arith)) place h ∙ ap Ok (sym (octet_value place cell h after))
+
+  pub turn_below : (place : ℕ) → place < length (oldest_of (finished_in ring)) → place / 7 < capacity_of ring
+  turn_below place h =
+      let some = some_wait ring.waiting used_cells (omega arith) in
+      omega (arith, length_oldest some, (oldest_first some).within, length_used_cells, ring.within)

@@ -2,13 +2,14 @@
 use Rattle.std.proofs.Common.{◌≡◌, ℕ, zero, suc, ◌+◌, ◌<◌, ◌≤◌, true, false, eqb, List, [], ◌∷◌, ◌++◌, length, get_or, take, drop, set, Some, None, Ok, sym, refl, ap, ◌∙◌, ap₂, add-one, arith, take-add}
 use Rattle.std.proofs.lemmas.List.{length-drop, length-take-le, take-set-le, drop-set, drop-set-add, drop_more, take_more_set, flat_map_more}
 use Rattle.std.proofs.lemmas.Bool.{cond-false, ne_eqb}
+use Rattle.circular.specs.Circle.{round_from, Turned}
+use Rattle.circular.proofs.Rounds.{round_from_set, get_or_turned}
 use Rattle.hold.specs.Candidates.{Candidate, free_space, add_answer, after_add, finish_answer, open_after_finish, finished_after_finish}
 use Rattle.ring.specs.declared.cells.Cell.{Cell}
 use Rattle.ring.specs.declared.cells.Ring.{Ring}
-use Rattle.ring.specs.Cells.{round_from, octets_in, octets_of, first_count, grouped, parted, added, unfinished_in, plain_showing}
-use Rattle.ring.specs.Held.{in_turn, capacity_of, finished_in, opened_in, PlaceAfter}
+use Rattle.ring.specs.Cells.{octets_in, octets_of, first_count, grouped, parted, added, unfinished_in, plain_showing}
+use Rattle.ring.specs.Held.{in_turn, capacity_of, finished_in, opened_in}
 use Rattle.ring.specs.Sound.{length_octets_take}
-use Rattle.ring.proofs.Rounds.{round_from_set, get_or_turned}
 use Rattle.ring.proofs.Groups.{shown_plain, octets_in_seven, Behind, behind}
 use Rattle.ring.proofs.Turns.{length_in_turn, finished_is_used, open_is_added}
 
@@ -20,10 +21,10 @@ module _ (ring : Ring) (codeblocks : ℕ) (is_open : ring.unfinished ≡ Some co
   opened_is = ap (λ n. unfinished_in n open_cells) is_open
 
   -- a write behind the finished candidates leaves them as they are
-  pub finished_stay : (place turn : ℕ) (cell : Cell) → ring.used ≤ turn → turn < capacity_of ring → PlaceAfter ring turn place →
+  pub finished_stay : (place turn : ℕ) (cell : Cell) → ring.used ≤ turn → turn < capacity_of ring → Turned (capacity_of ring) ring.first turn place →
       take ring.used (round_from ring.first (set ring.cells.now place cell)) ≡ take ring.used (in_turn ring)
   finished_stay place turn cell past h after =
-      ap (take ring.used) (round_from_set ring.cells.now ring.first turn place cell h (after.below h) after.turned)
+      ap (take ring.used) (round_from_set ring.cells.now ring.first turn place cell h after)
       ∙ take-set-le ring.used (in_turn ring) turn cell past
 
   module _ (room : ring.used + codeblocks < capacity_of ring) where
@@ -35,11 +36,11 @@ module _ (ring : Ring) (codeblocks : ℕ) (is_open : ring.unfinished ≡ Some co
     pub add_answered : add_answer (capacity_of ring) (finished_in ring) (opened_in ring) ≡ Ok tt
     add_answered = ap (add_answer (capacity_of ring) (finished_in ring)) opened_is ∙ cond-false _ _ _ some_free
 
-    pub stored : (place : ℕ) (cell : Cell) → length cell.octets ≡ 7 → PlaceAfter ring (ring.used + codeblocks) place →
+    pub stored : (place : ℕ) (cell : Cell) → length cell.octets ≡ 7 → Turned (capacity_of ring) ring.first (ring.used + codeblocks) place →
         unfinished_in (Some (codeblocks + 1)) (drop ring.used (round_from ring.first (set ring.cells.now place cell))) ≡ after_add plain_showing (capacity_of ring) (finished_in ring) (opened_in ring) cell.octets
     stored place cell seven after =
         let candidate = octets_of (take codeblocks open_cells) in
-        let cells = round_from_set ring.cells.now ring.first (ring.used + codeblocks) place cell room (after.below room) after.turned in
+        let cells = round_from_set ring.cells.now ring.first (ring.used + codeblocks) place cell room after in
         ap (λ l. Some (octets_of l))
         (ap (λ l. take (codeblocks + 1) (drop ring.used l)) cells ∙ ap (take (codeblocks + 1)) (drop-set-add ring.used (in_turn ring) codeblocks cell)
         ∙ take_more_set open_cells codeblocks cell (omega (arith, length-drop ring.used (in_turn ring), length_in_turn ring)))
@@ -84,7 +85,7 @@ module _ (ring : Ring) (codeblocks : ℕ) (is_open : ring.unfinished ≡ Some co
     pub closed : open_after_finish (opened_in ring) ≡ None
     closed = ap open_after_finish opened_is ∙ none_open (octets_of (take codeblocks open_cells)) not_empty
 
-    module _ (place : ℕ) (after : PlaceAfter ring ring.used place) where
+    module _ (place : ℕ) (after : Turned (capacity_of ring) ring.first ring.used place) where
       abbrev old_cell : Cell
       old_cell = get_or ring.cells.now place (record { octets = []; codeblocks = 0 })
 
@@ -98,7 +99,7 @@ module _ (ring : Ring) (codeblocks : ℕ) (is_open : ring.unfinished ≡ Some co
       all_cells =
           let round = in_turn ring in
           let used = ring.used in
-          ap (take (used + codeblocks)) (round_from_set ring.cells.now ring.first used place counted_cell first_open (after.below first_open) after.turned)
+          ap (take (used + codeblocks)) (round_from_set ring.cells.now ring.first used place counted_cell first_open after)
           ∙ take-add used codeblocks (set round used counted_cell)
           ∙ ap (λ l. l ++ take codeblocks (drop used (set round used counted_cell))) (take-set-le used round used counted_cell (omega arith))
           ∙ ap (λ l. take used round ++ take codeblocks l) (drop-set round used counted_cell (omega (arith, within)))
@@ -108,7 +109,7 @@ module _ (ring : Ring) (codeblocks : ℕ) (is_open : ring.unfinished ≡ Some co
           let round = in_turn ring in
           let blank : Cell = record { octets = []; codeblocks = 0 } in
           same_octets codeblocks counted_cell (get_or round ring.used blank) (drop (ring.used + 1) round)
-          (ap octets_in (get_or_turned ring.cells.now ring.first ring.used place blank ring.placed first_open (after.below first_open) after.turned))
+          (ap octets_in (get_or_turned ring.cells.now ring.first ring.used place blank first_open after))
           ∙ ap (λ l. octets_of (take codeblocks l)) (sym (drop_more round ring.used blank (omega (arith, within))))
 
       last_behind : Behind ring.waiting (take ring.used (in_turn ring)) last

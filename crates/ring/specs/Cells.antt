@@ -1,17 +1,8 @@
 -- The candidates that cells hold, in the turn of a ring. Assumes nothing.
-use Rattle.std.specs.Prelude.{◌≡◌, ℕ, zero, suc, ◌+◌, ◌-◌, Bool, ◌&&◌, ◌⊎◌, List, [], ◌∷◌, ◌++◌, length, take, drop, Some, None, Option, ◌==◌, nat_le, slice_index_or}
+use Rattle.std.specs.Prelude.{ℕ, zero, suc, Bool, ◌&&◌, List, [], ◌∷◌, length, take, drop, Some, None, Option, ◌==◌, nat_le, slice_index_or}
 use Rattle.std.specs.List.{flat_map}
 use Rattle.hold.specs.Candidates.{Candidate, Showing}
 use Rattle.ring.specs.declared.cells.Cell.{Cell}
-
-module _ {X : Type 0} where
-  -- every cell once, from a place on: after the last comes the first
-  abbrev pub round_from : ℕ → List X → List X
-  round_from place cells = drop place cells ++ take place cells
-
-  -- a place that comes so many after another: on to the last cell, and then from the first
-  abbrev pub Turned : List X → ℕ → ℕ → ℕ → Type 0
-  Turned cells first turn place = (place ≡ first + turn) ⊎ (place + (length cells - first) ≡ turn)
 
 -- the seven octets in a cell
 abbrev pub octets_in : Cell → List ℕ

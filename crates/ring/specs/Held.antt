@@ -1,10 +1,12 @@
 -- What a ring holds, and what its calls find and leave. Assumes nothing.
 use Rattle.std.specs.Prelude.{◌≡◌, ℕ, ◌+◌, ◌-◌, ◌*◌, ◌<◌, ◌≤◌, true, List, [], ◌∷◌, length, take, drop, Some, None, Ok, Err, Option}
-use Rattle.refusals.specs.declared.Refusal.TheVariants.{PastCandidateEnd}
+use Rattle.refusals.specs.declared.Refusal.{Refusal}
+use Rattle.refusals.specs.declared.Refusal.TheVariants.{NoCandidate, PastCandidateEnd, NoCandidateOpen}
 use Rattle.hold.specs.Candidates.{Candidate, Sound, ShowsApart, add_answer, after_add, finish_answer, open_after_finish, finished_after_finish, release_answer, after_release, oldest_length, oldest_octet, stretch_answer, after_stretch}
+use Rattle.circular.specs.Circle.{round_from}
 use Rattle.ring.specs.declared.cells.Cell.{Cell}
 use Rattle.ring.specs.declared.cells.Ring.{Ring}
-use Rattle.ring.specs.Cells.{round_from, Turned, first_count, grouped, parted, unfinished_in, plain_showing}
+use Rattle.ring.specs.Cells.{first_count, grouped, parted, unfinished_in, plain_showing}
 use Rattle.ring.specs.Sound.{sound_cells}
 
 -- every cell once, those of the oldest candidate first
@@ -26,11 +28,14 @@ shows_apart = record { octets = λ place x h. h; apart = λ place x y hx hy e. e
 pub sound_ring : (ring : Ring) → Sound (capacity_of ring) (finished_in ring) (opened_in ring)
 sound_ring ring = sound_cells ring.cells.now ring.first ring.used ring.waiting ring.unfinished ring.within ring.whole ring.most
 
--- the place so many after that of the oldest candidate's first cell
-pub record PlaceAfter (ring : Ring) (turn place : ℕ) : Type 0 where
-  pub within : place ≤ capacity_of ring
-  pub below : turn < capacity_of ring → place < capacity_of ring
-  pub turned : Turned ring.cells.now ring.first turn place
+-- no candidate is open, or none waits, and what is refused for that
+pub record NoneOpen (ring : Ring) (why : Refusal) : Type 0 where
+  pub reason : why ≡ NoCandidateOpen
+  pub none : ring.unfinished ≡ None
+
+pub record NoneWaits (ring : Ring) (why : Refusal) : Type 0 where
+  pub reason : why ≡ NoCandidate
+  pub none : finished_in ring ≡ []
 
 -- what a store behind the open candidate's cells leaves
 pub record Stored (before : Ring) (codeblocks : ℕ) (octets : List ℕ) (after : Ring) : Type 0 where

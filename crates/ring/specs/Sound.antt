@@ -1,14 +1,13 @@
 -- What cells hold is whole candidates within the capacity. Assumes nothing.
 use Rattle.std.specs.Prelude.{◌≡◌, ℕ, zero, suc, ◌+◌, ◌*◌, ◌<◌, ◌≤◌, true, List, [], ◌∷◌, length, take, drop, Some, None, Option, nat_le, refl}
 use Rattle.std.proofs.Common.{sym, ◌∙◌, arith}
-use Rattle.std.proofs.lemmas.List.{length-append, length-take, length-take-le, length-drop}
+use Rattle.std.proofs.lemmas.List.{length-take-le, length-drop}
 use Rattle.std.proofs.lemmas.Bool.{and_parts, leb-true, eqb-true}
 use Rattle.hold.specs.Candidates.{finished_codeblocks, open_codeblocks, FinishedWhole, OpenWhole, Sound}
 use Rattle.ring.specs.declared.cells.Cell.{Cell}
-use Rattle.ring.specs.Cells.{round_from, octets_of, first_count, grouped, parted, added, unfinished_in}
-
-pub length_round_from : {X : Type 0} (cells : List X) (first : ℕ) → length (round_from first cells) ≡ length cells
-length_round_from cells first = omega (arith, length-append (drop first cells) (take first cells), length-drop first cells, length-take first cells)
+use Rattle.circular.specs.Circle.{round_from}
+use Rattle.circular.proofs.Rounds.{length_round_from}
+use Rattle.ring.specs.Cells.{octets_of, first_count, grouped, parted, added, unfinished_in}
 
 pub length_octets_of : (cells : List Cell) → length (octets_of cells) ≡ 7 * length cells
 length_octets_of [] = refl

@@ -1,5 +1,6 @@
 ghost use Rattle.std.specs.Prelude.{◌≡◌, ◌+◌, ◌≤◌, true, length, take};
-ghost use Rattle.ring.specs.Cells.{round_from, added, parted};
+ghost use Rattle.circular.specs.Circle.{round_from};
+ghost use Rattle.ring.specs.Cells.{added, parted};
 
 /// Room for one codeblock of a ring.
 #[derive(Clone, Copy)]

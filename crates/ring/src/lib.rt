@@ -1,12 +1,14 @@
 //! A hold of candidates in lent cells: no allocation, and constant time for each call but a read.
 #![tactic(auto)]
 
-ghost use Rattle.std.specs.Prelude.{◌≡◌, ◌+◌, ◌-◌, ◌<◌, ◌≤◌, min, [], length, Some as present, None as absent, Ok, MatchOption, slice_index};
+ghost use Rattle.std.specs.Prelude.{◌≡◌, ◌+◌, ◌-◌, ◌<◌, ◌≤◌, min, [], length, Some as present, None as absent, Ok, MatchResult, slice_index};
 ghost use Rattle.randomizer.specs.declared.Randomizer.TheVariants.{Off};
+ghost use Rattle.circular.specs.Circle.{Turned};
 ghost use Rattle.hold.specs.Candidates.{Matches, finished_codeblocks, open_codeblocks, oldest_octet, stretch_answer, after_stretch};
 ghost use Rattle.ring.specs.Cells.{plain_showing, added};
-ghost use Rattle.ring.specs.Held.{capacity_of, finished_in, opened_in, oldest_of, shows_apart, sound_ring, PlaceAfter, Stored, Counted, Oldest, BehindOldest};
+ghost use Rattle.ring.specs.Held.{capacity_of, finished_in, opened_in, oldest_of, shows_apart, sound_ring, NoneOpen, NoneWaits, Stored, Counted, Oldest, BehindOldest};
 
+use circular::place_after;
 use hold::Hold;
 use refusals::Refusal;
 
@@ -48,46 +50,38 @@ impl<'a> Ring<'a> {
 
     // The place so many cells after the first cell of the oldest candidate. After the last comes the first.
     fn place(&self, turn: usize) -> usize
-        requires { turn ≤ capacity_of self.now }
-        ensures { PlaceAfter self.now turn result }
+        ensures place { Turned (capacity_of self.now) self.now.first turn result }
+        ensures within { turn < capacity_of self.now → result < capacity_of self.now }
     {
-        let to_the_end = self.cells.len() - self.first;
-        if turn < to_the_end {
-            self.first + turn
-        } else {
-            turn - to_the_end
-        }
-    }
-
-    // How many finished candidates wait.
-    fn candidates(&self) -> usize
-        ensures { result ≡ length (finished_in self.now) }
-    {
-        self.waiting
+        place_after(self.cells.len(), self.first, turn)
     }
 
     // How many codeblocks are held, finished or open.
+    #[tactic(auto, using(crate::proofs::Turns::finished_is_used, crate::proofs::Turns::open_is_added))]
     fn held(&self) -> usize
         ensures cells { result ≡ self.now.used + added self.now.unfinished }
         ensures finished { finished_codeblocks (finished_in self.now) ≡ self.now.used }
         ensures opened { open_codeblocks (opened_in self.now) ≡ added self.now.unfinished }
     {
-        match self.unfinished {
-            None => self.used,
-            Some(codeblocks) => self.used + codeblocks,
-        }
+        self.used + self.unfinished.unwrap_or(0)
     }
 
-    // How many codeblocks the oldest finished candidate has, if one waits.
-    fn oldest(&self) -> Option<usize>
-        ensures { MatchOption result (finished_in self.now ≡ []) (Oldest self.now) }
+    // How many codeblocks the open candidate has. Refused where none is open.
+    fn unfinished(&self) -> Result<usize, Refusal>
+        ensures { MatchResult result (λ codeblocks. self.now.unfinished ≡ present codeblocks) (NoneOpen self.now) }
+    {
+        self.unfinished.ok_or(Refusal::NoCandidateOpen)
+    }
+
+    // How many codeblocks the oldest finished candidate has. Refused where none waits.
+    #[tactic(auto, using(crate::proofs::Turns::oldest_counted, crate::proofs::Turns::few_wait))]
+    fn oldest(&self) -> Result<usize, Refusal>
+        ensures { MatchResult result (Oldest self.now) (NoneWaits self.now) }
     {
         if self.waiting == 0 {
-            return None;
+            return Err(Refusal::NoCandidate);
         }
-        let cells: &[Cell] = self.cells;
-        let first = self.place(0);
-        Some(cells[first].codeblocks as usize)
+        Ok(self.cells[self.place(0)].codeblocks as usize)
     }
 
     // The place of the cell that comes after the last one of the oldest finished candidate.
@@ -99,14 +93,13 @@ impl<'a> Ring<'a> {
     }
 
     // The octet at a place of the oldest finished candidate.
+    #[tactic(auto, using(crate::proofs::Turns::turn_below, crate::proofs::Turns::octet_value, crate::proofs::Turns::octet_answered))]
     fn octet(&self, place: usize) -> u8
         requires { place < length (oldest_of (finished_in self.now)) }
         ensures value { result ≡ slice_index (oldest_of (finished_in self.now)) place }
         ensures answer { oldest_octet (finished_in self.now) place ≡ Ok result }
     {
-        let cells: &[Cell] = self.cells;
-        let cell = self.place(place / 7);
-        cells[cell].octets[place % 7]
+        self.cells[self.place(place / 7)].octets[place % 7]
     }
 
     // Reads a stretch of the oldest finished candidate, from a place on, into memory that is as long.
@@ -166,9 +159,7 @@ impl<'a> Hold for Ring<'a> {
     }
 
     fn add(&mut self, octets: [u8; 7]) -> Result<(), Refusal> {
-        let Some(codeblocks) = self.unfinished else {
-            return Err(Refusal::NoCandidateOpen);
-        };
+        let codeblocks = self.unfinished()?;
         if self.held() == self.cells.len() {
             return Err(Refusal::NoFreeSpace);
         }
@@ -178,9 +169,7 @@ impl<'a> Hold for Ring<'a> {
     }
 
     fn finish(&mut self) -> Result<(), Refusal> {
-        let Some(codeblocks) = self.unfinished else {
-            return Err(Refusal::NoCandidateOpen);
-        };
+        let codeblocks = self.unfinished()?;
         if codeblocks == 0 {
             return Err(Refusal::CandidateEmpty);
         }
@@ -192,17 +181,13 @@ impl<'a> Hold for Ring<'a> {
     }
 
     fn abandon(&mut self) -> Result<(), Refusal> {
-        if self.unfinished.is_none() {
-            return Err(Refusal::NoCandidateOpen);
-        }
+        let _ = self.unfinished()?;
         self.unfinished = None;
         Ok(())
     }
 
     fn release(&mut self) -> Result<(), Refusal> {
-        let Some(codeblocks) = self.oldest() else {
-            return Err(Refusal::NoCandidate);
-        };
+        let codeblocks = self.oldest()?;
         self.first = self.behind_oldest(codeblocks);
         self.used -= codeblocks;
         self.waiting -= 1;
@@ -217,21 +202,17 @@ impl<'a> Hold for Ring<'a> {
         self.held() - self.used
     }
 
+    #[tactic(auto, using(crate::proofs::Turns::length_finished))]
     fn finished_count(&self) -> usize {
-        self.candidates()
+        self.waiting
     }
 
     fn oldest_length(&self) -> Result<usize, Refusal> {
-        let Some(codeblocks) = self.oldest() else {
-            return Err(Refusal::NoCandidate);
-        };
-        Ok(7 * codeblocks)
+        Ok(7 * self.oldest()?)
     }
 
     fn oldest_octet(&self, place: usize) -> Result<u8, Refusal> {
-        let Some(codeblocks) = self.oldest() else {
-            return Err(Refusal::NoCandidate);
-        };
+        let codeblocks = self.oldest()?;
         if place >= 7 * codeblocks {
             return Err(Refusal::PastCandidateEnd);
         }
@@ -239,9 +220,7 @@ impl<'a> Hold for Ring<'a> {
     }
 
     fn read_oldest(&self, place: usize, memory: &mut [u8]) -> Result<(), Refusal> {
-        let Some(codeblocks) = self.oldest() else {
-            return Err(Refusal::NoCandidate);
-        };
+        let codeblocks = self.oldest()?;
         if memory.len() > (7 * codeblocks).saturating_sub(place) {
             return Err(Refusal::PastCandidateEnd);
         }

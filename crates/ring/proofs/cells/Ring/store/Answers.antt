@@ -17,7 +17,7 @@ invariant_of-self c =
       most = omega (arith, same, ring.most);
       placed = omega (arith, same, ring.placed);
       within = omega (arith, same, ring.within);
-      whole = ap (parted ring.waiting) (finished_stay ring codeblocks c.requires.0 place (ring.used + codeblocks) cell (omega arith) c.requires.1 c.place-place.ensures) ∙ ring.whole;
+      whole = ap (parted ring.waiting) (finished_stay ring codeblocks c.requires.0 place (ring.used + codeblocks) cell (omega arith) c.requires.1 c.place-place.ensures.place) ∙ ring.whole;
     }
 
 pub returns : goal.returns
@@ -26,7 +26,7 @@ returns c =
     let codeblocks = c.args.codeblocks in
     let place = c.place-place.result in
     let cell : Cell = record { octets = c.args.octets; codeblocks = 0 } in
-    let after = c.place-place.ensures in
+    let after = c.place-place.ensures.place in
     record {
       answer = add_answered ring codeblocks c.requires.0 c.requires.1;
       capacity = length-set ring.cells.now place cell;

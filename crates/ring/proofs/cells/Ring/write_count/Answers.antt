@@ -18,7 +18,7 @@ invariant_of-self c =
       most = omega (arith, same, ring.most);
       placed = omega (arith, same, ring.placed);
       within = omega (arith, same, ring.within);
-      whole = ap (parted ring.waiting) (finished_stay ring codeblocks c.requires.0 place ring.used cell (omega arith) (first_open ring codeblocks c.requires.0 c.requires.1) c.place-place.ensures) ∙ ring.whole;
+      whole = ap (parted ring.waiting) (finished_stay ring codeblocks c.requires.0 place ring.used cell (omega arith) (first_open ring codeblocks c.requires.0 c.requires.1) c.place-place.ensures.place) ∙ ring.whole;
     }
 
 pub returns : goal.returns
@@ -33,7 +33,7 @@ returns c =
       capacity = length-set ring.cells.now place _;
       used = refl;
       few = omega (arith, few_wait ring, ring.within, ring.most, ap added is_open);
-      finished = counted ring codeblocks is_open some place c.place-place.ensures;
-      whole = counted_whole ring codeblocks is_open some place c.place-place.ensures;
+      finished = counted ring codeblocks is_open some place c.place-place.ensures.place;
+      whole = counted_whole ring codeblocks is_open some place c.place-place.ensures.place;
       opened = closed ring codeblocks is_open some;
     }

@@ -1,0 +1,2 @@
+-- Laws of circles. Assumes nothing.
+pub mod Rounds

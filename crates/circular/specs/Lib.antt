@@ -1,0 +1,2 @@
+-- Rounds of a circle, and places in it. Assumes nothing.
+pub mod Circle
