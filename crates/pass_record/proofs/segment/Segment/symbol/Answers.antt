@@ -5,9 +5,9 @@ use Rattle.std.proofs.lemmas.List.{length-take, get_or-take}
 use Rattle.std.proofs.lemmas.Option.{slice_get-get_or}
 use Rattle.bch.specs.Bits.{bits_of}
 use Rattle.pass_record.specs.Segments.{symbols_in}
-use Rattle.pass_record.specs.declared.Segment.{Segment}
+use Rattle.pass_record.specs.declared.segment.Segment.{Segment}
 use Rattle.pass_record.proofs.Packing.{length_bits_of, bits_of_at}
-use Rattle.pass_record.proofs.Segment.symbol.Goals as goal
+use Rattle.pass_record.proofs.segment.Segment.symbol.Goals as goal
 
 within : (segment : Segment) (place : ℕ) → place < length (symbols_in segment) → place < 8 * length segment.octets.now
 within segment place h = omega (arith, length-take segment.symbols (bits_of segment.octets.now), length_bits_of segment.octets.now)
