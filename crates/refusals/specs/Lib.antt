@@ -1,2 +1,2 @@
--- What the number of each refusal is. Assumes nothing.
+-- What the number of each refusal is, and its text. Assumes nothing.
 pub mod Numbers

@@ -1,5 +1,5 @@
--- The number of each refusal, by which operators, logs and the manual speak of it. Assumes nothing.
-use Rattle.std.specs.Prelude.{ℕ}
+-- The number of each refusal, by which operators, logs and the manual speak of it, and its text. Assumes nothing.
+use Rattle.std.specs.Prelude.{ℕ, List, ◌++◌, codes, decimal}
 use Rattle.refusals.specs.declared.Refusal.{Refusal}
 use Rattle.refusals.specs.declared.Refusal.TheVariants.{FrameLength, MemoryTooShort, IdleLength, CodeblockLimit, CarrierAlreadyUp, CarrierDown, NoCandidate, PastCandidateEnd, NeitherFrameNorFill, CandidateOpen, NoCandidateOpen, NoFreeSpace, CandidateEmpty, QueueFull, QueueEmpty, RecordLayout}
 
@@ -20,3 +20,7 @@ refusal_number CandidateEmpty = 13
 refusal_number QueueFull = 14
 refusal_number QueueEmpty = 15
 refusal_number RecordLayout = 16
+
+-- the word `refused` and the number
+abbrev pub refusal_text : Refusal → List ℕ
+refusal_text refusal = codes "refused " ++ decimal (refusal_number refusal)
