@@ -7,8 +7,8 @@ use Rattle.std.proofs.Math.Logic.{∥∥₁_elim}
 use Rattle.std.proofs.lemmas.List.{length-take-le}
 use Rattle.std.proofs.lemmas.List.FromFn.{length-map-range_with_len, get_or-map-range_with_len}
 use Rattle.bch.specs.Bits.{bits_of}
-use Rattle.pass_record.specs.Record.{octets_for, IsRecord}
-use Rattle.pass_record.specs.Reading.{told_count, told_begin, told_size, told_segment, told_segments}
+use Rattle.pass_record.specs.Record.{octets_for}
+use Rattle.pass_record.specs.Reading.{told_count, told_begin, told_size, told_segment}
 use Rattle.pass_record.specs.Segments.{segments_in, symbols_in}
 use Rattle.pass_record.specs.declared.record.PassRecord.{PassRecord}
 use Rattle.pass_record.specs.declared.segment.Segment.{Segment}

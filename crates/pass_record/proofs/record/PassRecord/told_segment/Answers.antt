@@ -1,8 +1,7 @@
 -- The segment is the one that its entry tells. Assumes nothing.
-use Rattle.std.proofs.Common.{◌≡◌, ◌≤◌, sym, ap, ◌∙◌, ap₂, take, drop, length, Some, arith, rules}
+use Rattle.std.proofs.Common.{◌≤◌, sym, ap, ◌∙◌, ap₂, take, drop, length, Some, arith, rules}
 use Rattle.std.proofs.lemmas.List.{take_rest, length-drop}
 use Rattle.bch.specs.Bits.{bits_of}
-use Rattle.pass_record.specs.Reading.{told_begin}
 use Rattle.pass_record.proofs.Within.{segment_there, segment_within}
 use Rattle.pass_record.proofs.record.PassRecord.told_segment.Goals as goal
 
