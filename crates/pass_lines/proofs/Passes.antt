@@ -1,28 +1,29 @@
 -- Events one after the other, with what they tell. Assumes nothing.
-use Rattle.std.proofs.Common.{◌≡◌, ℕ, suc, ◌+◌, ◌*◌, ◌<◌, ◌≤◌, Bool, true, false, eqb, List, [], ◌∷◌, ◌++◌, length, take, sym, refl, ap, ◌∙◌, subst, ap₂, ⊎_elim, append_assoc, append-nil, arith}
+use Rattle.std.proofs.Common.{◌≡◌, ℕ, suc, ◌+◌, ◌*◌, ◌≤◌, Bool, true, false, eqb, List, [], ◌∷◌, ◌++◌, map, length, take, Ok, Err, Option, Result, MatchResult, sym, refl, ap, ◌∙◌, subst, ap₂, append-nil, arith}
 use Rattle.std.specs.Option.{option_to_list}
-use Rattle.std.specs.List.{slice_get}
-use Rattle.std.proofs.lemmas.List.{take_all, take_more, nil_from_length}
-use Rattle.std.proofs.lemmas.Option.{slice_get-get_or, slice_get_past}
-use Rattle.std.proofs.lemmas.Bool.{cases_lt}
+use Rattle.std.specs.Result.{result_ok}
+use Rattle.std.proofs.lemmas.List.{take_all, nil_from_length, map-append}
+use Rattle.std.proofs.lemmas.Grind.{flat_map-append}
+use Rattle.refusals.specs.declared.Refusal.{Refusal}
 use Rattle.hold.specs.declared.Hold.{Ghosts}
 use Rattle.hold.specs.Candidates.{Showing}
 use Rattle.queue.specs.declared.slots.Queue.{Queue}
-use Rattle.queue.specs.Waiting.{waiting, capacity, Taken}
+use Rattle.queue.specs.Waiting.{waiting, capacity, Taken, RefusedEmpty}
 use Rattle.reception.specs.declared.Report.{Report}
-use Rattle.reception.specs.Rules.{Settings, Held, Decoded, goes_on, ends, decoded, Phase, INACTIVE, SEARCH, DECODE, State, Event, carrier_up, carrier_down, symbol, release, next_count, next_window, bit_value, is_start, at_window, at_codeblock, at_word, at_event}
+use Rattle.reception.specs.Rules.{Settings, Held, Decoded, goes_on, ends, decoded, Phase, INACTIVE, SEARCH, DECODE, Event, carrier_up, carrier_down, symbol, release, next_count, next_window, bit_value, is_start, at_window, at_codeblock, at_word, at_event}
 use Rattle.reception.specs.Runs.{after_events, reports_of}
 use Rattle.reception.specs.Calls.{Call, call_up, symbol_events, events_in}
 use Rattle.decoding.specs.Meaning.{rules_of}
-use Rattle.receiver.specs.declared.state.Receiver.{Receiver}
 use Rattle.receiver.specs.Meaning.{state_of, free_slots}
 use Rattle.receiver.specs.Calls.{reports_made, Called}
 use Rattle.receiver.specs.Events.{Queued}
 use Rattle.receiver.proofs.Ran.{up_is_quiet}
 use Rattle.receiver.proofs.Decided.{events_append}
-use Rattle.pass_lines.specs.declared.PassLog.{PassLog}
+use Rattle.pass_record.specs.declared.segment.Segment.{Segment}
+use Rattle.pass_record.specs.Segments.{symbols_in}
+use Rattle.pass_lines.specs.declared.receiving.Receiving.{Receiving}
 use Rattle.pass_lines.specs.Answers.{segment_events, pass_events}
-use Rattle.pass_lines.specs.Progress.{Progress, progress, progress_of, GoesOn, with_report, with_reports, after_outcome, run, Ready, TellsWaiting, Passed}
+use Rattle.pass_lines.specs.Progress.{Progress, progress, progress_of, GoesOn, with_reports, after_outcome, run, Passed}
 
 -- an event makes one report at most
 few_at_codeblock : (d : Decoded) → length (at_codeblock d).reports ≤ 1
@@ -50,93 +51,92 @@ few_reports settings showing (DECODE c w k) h (symbol b) = few_at_word settings 
 few_reports settings showing p h release = omega arith
 
 -- the queue after one event: its report waits, if it made one
-waits_one : (q later : Queue Report) (reports : List Report) → Ready q → length reports ≤ 1 → Queued (reports ++ []) q later → waiting later ≡ reports
-waits_one q later reports ready few queued =
-    let slot : free_slots q ≡ 1 = omega (arith, ready.one, ap length ready.empty) in
-    queued.waits ∙ ap₂ (λ (w : List Report) (n : ℕ). w ++ take n (reports ++ [])) ready.empty slot ∙ ap (take 1) (append-nil reports) ∙ take_all 1 reports few
+waits_one : (q later : Queue Report) (reports : List Report) → length (waiting q) ≡ 0 → capacity q ≡ 1 → length reports ≤ 1 → Queued (reports ++ []) q later → waiting later ≡ reports
+waits_one q later reports none one few queued =
+    let slot : free_slots q ≡ 1 = omega arith in
+    queued.waits ∙ ap₂ (λ (w : List Report) (n : ℕ). w ++ take n (reports ++ [])) (nil_from_length (waiting q) none) slot ∙ ap (take 1) (append-nil reports) ∙ take_all 1 reports few
 
--- a report that waits is told, and none is left
-pub tells_one : {X : Type 0} (hold : Ghosts X) (before after : Receiver X hold) (log later : PassLog) (queue left : Queue Report) (one : Report) → length (waiting queue) ≤ 1 → Taken queue one left → capacity left ≡ capacity queue →
-    GoesOn hold before after (with_report (progress_of hold before log) one) later → TellsWaiting hold before after log later queue left
-tells_one hold before after log later queue left one few taken same told =
-    let none : waiting left ≡ [] = nil_from_length (waiting left) (omega (arith, ap length taken.oldest)) in
-    record {
-      goes_on = record {
-        settings = told.settings;
-        come = told.come ∙ ap (with_reports (progress_of hold before log)) (sym (taken.oldest ∙ ap (λ l. one ∷ l) none));
-      };
-      empty = none;
-      capacity = same;
-    }
+-- what is taken from a queue where one report at most waits is all that waits
+pub all_taken : (full left : Queue Report) (taken : Result Report Refusal) → length (waiting full) ≤ 1 → MatchResult taken (λ one. Taken full one left) (RefusedEmpty full left) →
+    (waiting full ≡ option_to_list (result_ok taken)) × (length (waiting left) ≡ 0)
+all_taken full left (Ok one) few took =
+    let none : length (waiting left) ≡ 0 = omega (arith, ap length took.oldest) in
+    (took.oldest ∙ ap (λ l. one ∷ l) (nil_from_length (waiting left) none), none)
+all_taken full left (Err why) few refused = (refused.empty, ap (λ q. length (waiting q)) refused.same ∙ ap length refused.empty)
 
--- one event by a call, and what it tells
-pub passed_one : {X : Type 0} (hold : Ghosts X) (call : Call) (e : Event) (before mid after : Receiver X hold) (log later : PassLog) (queue full left : Queue Report) → events_in call ≡ e ∷ [] → Ready queue →
-    Called hold call before mid → Queued (reports_made hold before call) queue full → TellsWaiting hold mid after log later full left → Passed hold (e ∷ []) before after log later left
-passed_one hold call e before mid after log later queue full left one ready called queued told =
-    let rules = rules_of before.settings in
-    let outcome = at_event rules hold.showing (state_of hold before) e in
-    let there : state_of hold mid ≡ outcome.after = called.state ∙ ap (after_events rules hold.showing (state_of hold before)) one in
-    let waits : waiting full ≡ outcome.reports = waits_one queue full outcome.reports ready (few_reports rules hold.showing (state_of hold before).phase (state_of hold before).held e)
-    (subst (λ l. Queued l queue full) (ap (reports_of rules hold.showing (state_of hold before)) one) queued) in
-    record {
-      goes_on = record {
-        settings = told.goes_on.settings ∙ called.settings;
-        come = told.goes_on.come ∙ ap₂ (λ (s : State) (l : List Report). with_reports (progress s log) l) there waits;
-      };
-      ready = record { empty = told.empty; one = told.capacity ∙ queued.capacity ∙ ready.one };
-    }
+module _ {X : Type 0} (hold : Ghosts X) where
+  -- the queue after a call of one event
+  pub waits_after : (call : Call) (e : Event) (before : Receiving X hold) (full : Queue Report) → events_in call ≡ e ∷ [] → Queued (reports_made hold before.receiver call) before.queue full →
+      waiting full ≡ (at_event (rules_of before.receiver.settings) hold.showing (state_of hold before.receiver) e).reports
+  waits_after call e before full one queued =
+      let rules = rules_of before.receiver.settings in
+      let s = state_of hold before.receiver in
+      waits_one before.queue full (at_event rules hold.showing s e).reports before.nothing_waits before.room_for_one (few_reports rules hold.showing s.phase s.held e)
+      (subst (λ l. Queued l before.queue full) (ap (reports_of rules hold.showing s) one) queued)
 
--- carrier up tells nothing
-pub passed_up : {X : Type 0} (hold : Ghosts X) (before after : Receiver X hold) (log : PassLog) (queue : Queue Report) → Ready queue → Called hold call_up before after → Passed hold (carrier_up ∷ []) before after log log queue
-passed_up hold before after log queue ready called =
-    let outcome = at_event (rules_of before.settings) hold.showing (state_of hold before) carrier_up in
-    record {
-      goes_on = record {
-        settings = called.settings;
-        come = ap (λ (s : State). progress s log) called.state ∙ ap (with_reports (progress outcome.after log)) (sym (up_is_quiet (state_of hold before).phase (state_of hold before).held));
-      };
-      ready = ready;
-    }
+  -- and one report at most
+  pub one_waits : (call : Call) (e : Event) (before : Receiving X hold) (full : Queue Report) → events_in call ≡ e ∷ [] → Queued (reports_made hold before.receiver call) before.queue full → length (waiting full) ≤ 1
+  one_waits call e before full one queued =
+      let s = state_of hold before.receiver in
+      omega (arith, ap length (waits_after call e before full one queued), few_reports (rules_of before.receiver.settings) hold.showing s.phase s.held e)
+
+  -- one event by a call, and what it tells
+  pub passed_one : (call : Call) (e : Event) (before mid after : Receiving X hold) (full : Queue Report) (taken : Result Report Refusal) (report : Option Report) → events_in call ≡ e ∷ [] →
+      Called hold call before.receiver mid.receiver → mid.log ≡ before.log → Queued (reports_made hold before.receiver call) before.queue full →
+      MatchResult taken (λ one. Taken full one mid.queue) (RefusedEmpty full mid.queue) → report ≡ result_ok taken →
+      GoesOn hold mid after (with_reports (progress_of hold mid) (option_to_list report)) → Passed hold (e ∷ []) before after
+  passed_one call e before mid after full taken report one called same queued took ok told =
+      let rules = rules_of before.receiver.settings in
+      let s = state_of hold before.receiver in
+      let outcome = at_event rules hold.showing s e in
+      let there : state_of hold mid.receiver ≡ outcome.after = called.state ∙ ap (after_events rules hold.showing s) one in
+      let waits : option_to_list report ≡ outcome.reports =
+      ap option_to_list ok ∙ sym (all_taken full mid.queue taken (one_waits call e before full one queued) took).0 ∙ waits_after call e before full one queued in
+      record {
+        goes_on = record {
+          settings = told.settings ∙ called.settings;
+          come = told.come ∙ ap₂ with_reports (ap₂ progress there same) waits;
+        };
+      }
+
+  -- carrier up tells nothing
+  pub passed_up : (before after : Receiving X hold) → Called hold call_up before.receiver after.receiver → after.log ≡ before.log → Passed hold (carrier_up ∷ []) before after
+  passed_up before after called same =
+      let s = state_of hold before.receiver in
+      let outcome = at_event (rules_of before.receiver.settings) hold.showing s carrier_up in
+      record {
+        goes_on = record {
+          settings = called.settings;
+          come = ap₂ progress called.state same ∙ ap (with_reports (progress outcome.after before.log)) (sym (up_is_quiet s.phase s.held));
+        };
+      }
 
 -- events, and then more
 run_append : (settings : Settings) (showing : Showing) (es fs : List Event) (p : Progress) → run settings showing p (es ++ fs) ≡ run settings showing (run settings showing p es) fs
 run_append settings showing [] fs p = refl
 run_append settings showing (e ∷ es) fs p = run_append settings showing es fs (after_outcome p (at_event settings showing p.at e))
 
-pub passed_then : {X : Type 0} (hold : Ghosts X) (es fs : List Event) (a b c : Receiver X hold) (log mid later : PassLog) (queue left : Queue Report) → Passed hold es a b log mid queue → Passed hold fs b c mid later left → Passed hold (es ++ fs) a c log later left
-passed_then hold es fs a b c log mid later queue left first second =
+pub passed_then : {X : Type 0} (hold : Ghosts X) (es fs : List Event) (a b c : Receiving X hold) → Passed hold es a b → Passed hold fs b c → Passed hold (es ++ fs) a c
+passed_then hold es fs a b c first second =
     record {
       goes_on = record {
         settings = second.goes_on.settings ∙ first.goes_on.settings;
         come = second.goes_on.come ∙ ap₂ (λ set p. run (rules_of set) hold.showing p fs) first.goes_on.settings first.goes_on.come
-            ∙ sym (run_append (rules_of a.settings) hold.showing es fs (progress_of hold a log));
+            ∙ sym (run_append (rules_of a.receiver.settings) hold.showing es fs (progress_of hold a));
       };
-      ready = second.ready;
     }
 
-pub passed_as : {X : Type 0} {hold : Ghosts X} {es fs : List Event} {a b : Receiver X hold} {log later : PassLog} {queue : Queue Report} → es ≡ fs → Passed hold es a b log later queue → Passed hold fs a b log later queue
-passed_as {X} {hold} {es} {fs} {a} {b} {log} {later} {queue} same passed = subst (λ l. Passed hold l a b log later queue) same passed
+pub passed_as : {X : Type 0} {hold : Ghosts X} {es fs : List Event} {a b : Receiving X hold} → es ≡ fs → Passed hold es a b → Passed hold fs a b
+passed_as {X} {hold} {es} {fs} {a} {b} same passed = subst (λ l. Passed hold l a b) same passed
 
-pub passed_none : {X : Type 0} (hold : Ghosts X) (r : Receiver X hold) (log : PassLog) (queue : Queue Report) → Ready queue → Passed hold [] r r log log queue
-passed_none hold r log queue ready = record { goes_on = record { settings = refl; come = refl }; ready = ready }
+pub passed_none : {X : Type 0} (hold : Ghosts X) (a : Receiving X hold) → Passed hold [] a a
+passed_none hold a = record { goes_on = record { settings = refl; come = refl } }
 
--- one element more from the front of a list, if there is one
-take_next : {Y : Type 0} (xs : List Y) (i : ℕ) → take i xs ++ option_to_list (slice_get xs i) ≡ take (i + 1) xs
-take_next xs i = ⊎_elim
-    (λ lt. rest xs i lt)
-    (λ past. ap₂ ◌++◌ (take_all i xs past) (ap option_to_list (slice_get_past xs i past)) ∙ append-nil xs ∙ sym (take_all (i + 1) xs (omega arith)))
-    (cases_lt i (length xs))
-  where
-    rest : {Y : Type 0} (xs : List Y) (i : ℕ) → i < length xs → take i xs ++ option_to_list (slice_get xs i) ≡ take (i + 1) xs
-    rest [] i lt = absurd (omega arith)
-    rest (x ∷ xs) i lt = ap (λ o. take i (x ∷ xs) ++ option_to_list o) (slice_get-get_or (x ∷ xs) i x lt) ∙ sym (take_more (x ∷ xs) i x lt)
+pub one_more_symbol : (bits : List Bool) (bit : Bool) → symbol_events bits ++ symbol bit ∷ [] ≡ symbol_events (bits ++ bit ∷ [])
+one_more_symbol bits bit = sym (events_append bits (bit ∷ []))
 
-pub one_more_symbol : (xs : List Bool) (i : ℕ) → symbol_events (take i xs) ++ symbol_events (option_to_list (slice_get xs i)) ≡ symbol_events (take (i + 1) xs)
-one_more_symbol xs i = sym (events_append (take i xs) (option_to_list (slice_get xs i))) ∙ ap symbol_events (take_next xs i)
-
-events_of_more : (xs ys : List (List Bool)) → pass_events (xs ++ ys) ≡ pass_events xs ++ pass_events ys
-events_of_more [] ys = refl
-events_of_more (x ∷ xs) ys = ap (λ l. segment_events x ++ l) (events_of_more xs ys) ∙ sym (append_assoc (segment_events x) (pass_events xs) (pass_events ys))
-
-pub one_more_segment : (xs : List (List Bool)) (i : ℕ) → pass_events (take i xs) ++ pass_events (option_to_list (slice_get xs i)) ≡ pass_events (take (i + 1) xs)
-one_more_segment xs i = sym (events_of_more (take i xs) (option_to_list (slice_get xs i))) ∙ ap pass_events (take_next xs i)
+pub one_more_segment : (segments : List Segment) (segment : Segment) → pass_events (map symbols_in segments) ++ segment_events (symbols_in segment) ≡ pass_events (map symbols_in (segments ++ segment ∷ []))
+one_more_segment segments segment =
+    ap (λ l. pass_events (map symbols_in segments) ++ l) (sym (append-nil (segment_events (symbols_in segment))))
+    ∙ sym (flat_map-append segment_events (map symbols_in segments) (symbols_in segment ∷ []))
+    ∙ ap pass_events (sym (map-append symbols_in segments (segment ∷ [])))

@@ -5,17 +5,11 @@ use Rattle.hold.specs.Candidates.{Candidate}
 use Rattle.reception.specs.declared.Reason.{Reason}
 use Rattle.reception.specs.declared.Reason.TheVariants.{Closed, Empty, Long, Full, Down}
 use Rattle.reception.specs.declared.Report.{Report}
-
-abbrev pub reason_word : Reason → List ℕ
-reason_word Closed = codes "closed"
-reason_word Empty = codes "empty"
-reason_word Long = codes "long"
-reason_word Full = codes "full"
-reason_word Down = codes "down"
+use Rattle.reception.specs.Reports.{report_text}
 
 -- the reason, the codeblocks and the corrections
 abbrev pub report_line : Report → List ℕ
-report_line one = reason_word one.reason ++ (codes " " ++ (decimal one.codeblocks ++ (codes " " ++ (decimal one.corrections ++ codes "\n"))))
+report_line one = report_text one ++ codes "\n"
 
 -- `frame`, how many octets the candidate has, and these in capitals
 abbrev pub frame_line : Candidate → List ℕ

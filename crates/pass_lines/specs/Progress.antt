@@ -5,12 +5,10 @@ use Rattle.hold.specs.Candidates.{Showing}
 use Rattle.reception.specs.declared.Report.{Report}
 use Rattle.reception.specs.Rules.{Settings, State, state, releasing, Event, Outcome, at_event}
 use Rattle.reception.specs.Counting.{counted}
-use Rattle.queue.specs.declared.slots.Queue.{Queue}
-use Rattle.queue.specs.Waiting.{waiting, capacity}
 use Rattle.decoding.specs.Meaning.{rules_of}
-use Rattle.receiver.specs.declared.state.Receiver.{Receiver}
 use Rattle.receiver.specs.Meaning.{state_of}
 use Rattle.pass_lines.specs.declared.PassLog.{PassLog}
+use Rattle.pass_lines.specs.declared.receiving.Receiving.{Receiving}
 use Rattle.pass_lines.specs.Lines.{report_line, oldest_line, is_closed}
 
 -- reports and frames are counted up to 65,535
@@ -23,8 +21,8 @@ pub record Progress : Type 0 where
 abbrev pub progress : State → PassLog → Progress
 progress s log = record { at = s; text = string_bytes log.text; reports = log.reports; frames = log.frames }
 
-abbrev pub progress_of : {X : Type 0} → (hold : Ghosts X) → Receiver X hold → PassLog → Progress
-progress_of hold receiver log = progress (state_of hold receiver) log
+abbrev pub progress_of : {X : Type 0} → (hold : Ghosts X) → Receiving X hold → Progress
+progress_of hold receiving = progress (state_of hold receiving.receiver) receiving.log
 
 -- a text more, and r reports and f frames
 pub record Writes (more : List ℕ) (r f : ℕ) (before after : PassLog) : Type 0 where
@@ -33,9 +31,9 @@ pub record Writes (more : List ℕ) (r f : ℕ) (before after : PassLog) : Type 
   pub frames : after.frames ≡ counted before.frames f
 
 -- a receiver and what is written have come so far; the settings stay
-pub record GoesOn {X : Type 0} (hold : Ghosts X) (before after : Receiver X hold) (to : Progress) (log : PassLog) : Type 0 where
-  pub settings : after.settings ≡ before.settings
-  pub come : progress_of hold after log ≡ to
+pub record GoesOn {X : Type 0} (hold : Ghosts X) (before after : Receiving X hold) (to : Progress) : Type 0 where
+  pub settings : after.receiver.settings ≡ before.receiver.settings
+  pub come : progress_of hold after ≡ to
 
 -- a report gets its line
 abbrev pub with_line : Progress → Report → Progress
@@ -67,18 +65,6 @@ module _ (settings : Settings) (showing : Showing) where
   run p [] = p
   run p (e ∷ es) = run (after_outcome p (at_event settings showing p.at e)) es
 
--- a queue of one slot in which nothing waits
-pub record Ready (queue : Queue Report) : Type 0 where
-  pub empty : waiting queue ≡ []
-  pub one : capacity queue ≡ 1
-
--- what waits is told
-pub record TellsWaiting {X : Type 0} (hold : Ghosts X) (before after : Receiver X hold) (log later : PassLog) (queue left : Queue Report) : Type 0 where
-  pub goes_on : GoesOn hold before after (with_reports (progress_of hold before log) (waiting queue)) later
-  pub empty : waiting left ≡ []
-  pub capacity : capacity left ≡ capacity queue
-
 -- a receiver and what is written after events, with nothing left to tell
-pub record Passed {X : Type 0} (hold : Ghosts X) (events : List Event) (before after : Receiver X hold) (log later : PassLog) (queue : Queue Report) : Type 0 where
-  pub goes_on : GoesOn hold before after (run (rules_of before.settings) hold.showing (progress_of hold before log) events) later
-  pub ready : Ready queue
+pub record Passed {X : Type 0} (hold : Ghosts X) (events : List Event) (before after : Receiving X hold) : Type 0 where
+  pub goes_on : GoesOn hold before after (run (rules_of before.receiver.settings) hold.showing (progress_of hold before) events)

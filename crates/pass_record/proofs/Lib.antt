@@ -4,3 +4,5 @@ mod Octets
 mod Packing
 mod Places
 mod Laid
+mod Within
+mod Coming

@@ -1,93 +1,71 @@
 //! Reading a pass record: segments of received symbols, in octets that the caller lends.
 #![tactic(auto)]
 
-ghost use Rattle.std.specs.Prelude.{◌≡◌, ℕ, ◌+◌, ◌%◌, ◌^◌, ◌<◌, ◌≤◌, length, take, Some, None, Decides, MatchOption, MatchResult, ◌==◌, slice_index};
+ghost use Rattle.std.specs.Prelude.{◌≡◌, ℕ, ◌+◌, ◌%◌, ◌^◌, ◌<◌, ◌≤◌, length, Decides, MatchOption, MatchResult, ◌==◌, slice_index};
 ghost use Rattle.std.specs.Option.{option_map};
+ghost use Rattle.std.specs.Iterator.{YieldsFirst, YieldsFirstBy, item_count};
 ghost use Rattle.std.specs.List.{slice_get};
-ghost use Rattle.bch.specs.Bits.{bits_of};
 ghost use Rattle.pass_record.specs.Record.{octets_for, IsRecord, OneListOfSegments};
-ghost use Rattle.pass_record.specs.Reading.{number_at, unused, told_place, told_count, told_begin, told_size, told_segments, RightEnd, RightEntry, Tells};
-ghost use Rattle.pass_record.specs.Segments.{segments_in, symbols_in, RefusedLayout};
+ghost use Rattle.pass_record.specs.Reading.{number_at, unused, told_place, told_count, told_begin, told_size, RightEnd, RightEntry, Tells};
+ghost use Rattle.pass_record.specs.Segments.{segments_in, symbols_in, segments_left, symbols_left, RefusedLayout};
 
 use refusals::Refusal;
 
-/// The segments of symbols that were received while a satellite was in view, in lent octets.
-// Octets have a meaning here whatever they are, and the calls keep to it, so that no invariant is
-// needed: the checker does not cover a `Result` that holds a struct with an invariant and a reference.
-#[derive(Clone, Copy)]
-pub struct PassRecord<'a> {
-    octets: &'a [u8],
-}
+mod record;
+mod segment;
 
-/// One segment of a pass record: symbols that were received without a gap.
-#[derive(Clone, Copy)]
-pub struct Segment<'a> {
-    // The first octet of the segment, and all that follow it in the record.
-    octets: &'a [u8],
-    // How many symbols the segment has, unless the octets end before.
-    symbols: usize,
-}
+pub use record::PassRecord;
+pub use segment::Segment;
 
 // What the entry of a segment tells.
 #[derive(Clone, Copy)]
 struct Entry {
     // The place of the segment's first octet.
-    begin: usize,
+    begin: u32,
     // How many symbols the segment has.
-    symbols: usize,
+    symbols: u32,
 }
 
 // The octet at a place, or 0 past the end.
 fn octet_at(octets: &[u8], place: usize) -> u8
     ensures { result ≡ slice_index octets.now place }
 {
-    if place < octets.len() {
-        octets[place]
-    } else {
-        0
-    }
+    octets.get(place).copied().unwrap_or(0)
 }
 
 // The number in the four octets from a place on, the highest first.
-fn number_at(octets: &[u8], place: usize) -> usize
+fn number_at(octets: &[u8], place: usize) -> u32
     requires { place + 3 < 2 ^ 64 }
-    ensures value { result ≡ number_at octets.now place }
-    ensures below { result < 2 ^ 32 }
+    ensures { result ≡ number_at octets.now place }
 {
     u32::from_be_bytes([
         octet_at(octets, place),
         octet_at(octets, place + 1),
         octet_at(octets, place + 2),
         octet_at(octets, place + 3),
-    ]) as usize
+    ])
 }
 
 // How many entries there are.
-fn told_count(octets: &[u8]) -> usize
-    ensures value { result ≡ told_count octets.now }
-    ensures below { result < 2 ^ 32 }
-    ensures segments { result ≡ length (told_segments octets.now) }
-    ensures past { (i : ℕ) → result ≤ i → slice_get (told_segments octets.now) i ≡ None }
+fn told_count(octets: &[u8]) -> u32
+    ensures { result ≡ told_count octets.now }
 {
     number_at(octets, octets.len().saturating_sub(8))
 }
 
 // The place of the first entry.
-fn told_place(octets: &[u8]) -> usize
-    ensures value { result ≡ told_place octets.now }
-    ensures below { result < 2 ^ 32 }
+fn told_place(octets: &[u8]) -> u32
+    ensures { result ≡ told_place octets.now }
 {
     number_at(octets, octets.len().saturating_sub(4))
 }
 
 // What the entry of the segment i tells.
-fn told_entry(octets: &[u8], i: usize) -> Entry
-    requires { i < 2 ^ 32 }
+fn told_entry(octets: &[u8], i: u32) -> Entry
     ensures begin { result.begin ≡ told_begin octets.now i }
     ensures symbols { result.symbols ≡ told_size octets.now i }
-    ensures below { result.symbols < 2 ^ 32 }
 {
-    let place = told_place(octets) + 8 * i;
+    let place = told_place(octets) as usize + 8 * i as usize;
     Entry {
         begin: number_at(octets, place),
         symbols: number_at(octets, place + 4),
@@ -100,41 +78,28 @@ fn ends_right(octets: &[u8]) -> bool
 {
     8 <= octets.len()
         && octets.len() <= 65535
-        && told_place(octets) + 8 * told_count(octets) + 8 == octets.len()
+        && told_place(octets) as usize + 8 * told_count(octets) as usize + 8 == octets.len()
 }
 
 // Whether the bits of the last octet that so many symbols leave unused are zero.
-fn zero_padded(last: u8, symbols: usize) -> bool
+fn zero_padded(last: u8, symbols: u32) -> bool
     ensures { result ≡ (last % 2 ^ unused symbols == 0) }
 {
     let unused = (8 - symbols % 8) % 8;
     last % (1 << unused) == 0
 }
 
-// How many bits octets hold, or this number where they hold more.
-fn bits_held(octets: &[u8], most: usize) -> usize
-    ensures value { result ≡ length (take most (bits_of octets.now)) }
-    ensures past { (place : ℕ) → result ≤ place → slice_get (take most (bits_of octets.now)) place ≡ None }
-{
-    octets.len().saturating_mul(8).min(most)
-}
-
 // Where the segment i ends, if its entry is right and tells that it begins at this place.
-fn segment_end(octets: &[u8], i: usize, begin: usize) -> Option<usize>
-    requires { (i < 2 ^ 32) × (begin < 2 ^ 32) }
+fn segment_end(octets: &[u8], i: u32, begin: u32) -> Option<u32>
     ensures { MatchOption result (RightEntry octets.now i begin → ⊥) (λ end. RightEntry octets.now i begin × (end ≡ begin + octets_for (told_size octets.now i))) }
 {
     let entry = told_entry(octets, i);
-    let end = begin + entry.symbols.div_ceil(8);
-    if entry.begin == begin
+    let end = begin.checked_add(entry.symbols.div_ceil(8))?;
+    let is_right = entry.begin == begin
         && entry.symbols > 0
         && end <= told_place(octets)
-        && zero_padded(octet_at(octets, end - 1), entry.symbols)
-    {
-        Some(end)
-    } else {
-        None
-    }
+        && zero_padded(octet_at(octets, end as usize - 1), entry.symbols);
+    is_right.then_some(end)
 }
 
 // Whether octets are laid out as a record.
@@ -155,6 +120,7 @@ fn is_laid_out(octets: &[u8]) -> bool
     place == told_place(octets)
 }
 
+#[tactic(auto, using(crate::proofs::Within::length_segments, std::proofs::lemmas::Option::slice_get_past))]
 impl<'a> PassRecord<'a> {
     /// The record in these octets. Refused with `RecordLayout` exactly where they are not laid out as
     /// a pass record, whatever its segments.
@@ -173,19 +139,18 @@ impl<'a> PassRecord<'a> {
     pub fn count(&self) -> usize
         ensures { result ≡ length (segments_in self.now) }
     {
-        told_count(self.octets)
+        told_count(self.octets) as usize
     }
 
     // The segment i, as its entry tells.
-    fn told_segment(&self, i: usize) -> Segment<'a>
-        requires { (i < told_count self.now.octets.now) × (i < 2 ^ 32) }
+    fn told_segment(&self, i: u32) -> Segment<'a>
+        requires { i < told_count self.now.octets.now }
         ensures { slice_get (segments_in self.now) i ≡ Some (symbols_in result) }
     {
         let entry = told_entry(self.octets, i);
-        let begin = entry.begin.min(self.octets.len());
         Segment {
-            octets: &self.octets[begin..],
-            symbols: entry.symbols,
+            octets: &self.octets[entry.begin as usize..],
+            symbols: entry.symbols as usize,
         }
     }
 
@@ -193,20 +158,31 @@ impl<'a> PassRecord<'a> {
     pub fn segment(&self, i: usize) -> Option<Segment<'a>>
         ensures { option_map symbols_in result ≡ slice_get (segments_in self.now) i }
     {
-        if i < told_count(self.octets) {
-            Some(self.told_segment(i))
+        if i < told_count(self.octets) as usize {
+            Some(self.told_segment(i as u32))
         } else {
             None
         }
     }
+
+    /// The segments in order.
+    pub fn segments(&self) -> Segments<'a>
+        ensures { segments_left result ≡ segments_in self.now }
+    {
+        Segments {
+            pass: *self,
+            number: 0,
+        }
+    }
 }
 
+#[tactic(auto, using(crate::proofs::Within::length_symbols))]
 impl<'a> Segment<'a> {
     /// How many symbols the segment has.
     pub fn len(&self) -> usize
         ensures { result ≡ length (symbols_in self.now) }
     {
-        bits_held(self.octets, self.symbols)
+        self.symbols
     }
 
     // The symbol at a place.
@@ -221,11 +197,67 @@ impl<'a> Segment<'a> {
     pub fn bit(&self, place: usize) -> Option<bool>
         ensures { result ≡ slice_get (symbols_in self.now) place }
     {
-        if place < bits_held(self.octets, self.symbols) {
+        if place < self.symbols {
             Some(self.symbol(place))
         } else {
             None
         }
+    }
+
+    /// The symbols in order.
+    pub fn bits(&self) -> Bits<'a>
+        ensures { symbols_left result ≡ symbols_in self.now }
+    {
+        Bits {
+            segment: *self,
+            place: 0,
+        }
+    }
+}
+
+/// The segments of a pass record, in order.
+#[derive(Clone, Copy)]
+pub struct Segments<'a> {
+    pass: PassRecord<'a>,
+    // How many segments come before the next.
+    number: usize,
+}
+
+impl<'a> Iterator for Segments<'a> {
+    type Item = Segment<'a>;
+
+    ghost next_gives = { YieldsFirstBy symbols_in segments_left };
+
+    ghost remaining = { item_count segments_left };
+
+    #[tactic(auto, using(crate::proofs::Coming::one_comes, crate::proofs::Coming::none_comes, crate::proofs::Within::place_after_segment))]
+    fn next(&mut self) -> Option<Segment<'a>> {
+        let segment = self.pass.segment(self.number)?;
+        self.number += 1;
+        Some(segment)
+    }
+}
+
+/// The symbols of a segment, in order.
+#[derive(Clone, Copy)]
+pub struct Bits<'a> {
+    segment: Segment<'a>,
+    // How many symbols come before the next.
+    place: usize,
+}
+
+impl Iterator for Bits<'_> {
+    type Item = bool;
+
+    ghost next_gives = { YieldsFirst symbols_left };
+
+    ghost remaining = { item_count symbols_left };
+
+    #[tactic(auto, using(crate::proofs::Coming::one_comes, crate::proofs::Coming::none_comes, crate::proofs::Within::place_after_symbol))]
+    fn next(&mut self) -> Option<bool> {
+        let bit = self.segment.bit(self.place)?;
+        self.place += 1;
+        Some(bit)
     }
 }
 
@@ -274,6 +306,7 @@ mod tests {
             let octet = ONE_SEGMENT[place / 8];
             assert!(rt; segment.bit(place) == Some(octet >> (7 - place % 8) & 1 == 1));
         }
+        assert!(rt; pass.segments().count() == 1 && segment.bits().count() == 144);
         Ok(())
     }
 

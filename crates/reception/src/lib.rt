@@ -2,15 +2,16 @@
 //! and what holds of every run of them.
 #![tactic(auto)]
 
-ghost use Rattle.std.specs.Prelude.{◌≡◌};
+ghost use Rattle.std.specs.Prelude.{◌≡◌, Some};
 ghost use Rattle.hold.specs.Candidates.{Showing};
-ghost use Rattle.reception.specs.Reports.{reason_number};
+ghost use Rattle.reception.specs.Reports.{reason_number, reason_word, report_text};
 ghost use Rattle.reception.specs.Rules.{settings};
 ghost use Rattle.reception.specs.Runs.{recovery_bits};
 ghost use Rattle.reception.specs.Promise.{Promise};
 
 use bch::Mode;
 use cltu::CodeblockLimit;
+use std::fmt;
 
 /// Why a candidate ended.
 #[derive(Clone, Copy, Debug, PartialEq, Eq)]
@@ -42,6 +43,21 @@ impl Reason {
     }
 }
 
+/// The reason in a word, as `closed`.
+impl fmt::Display for Reason {
+    ghost output = { λ reason. Some (reason_word reason) };
+
+    fn fmt<W: fmt::Write>(&self, f: &mut fmt::Formatter<W>) -> fmt::Result {
+        f.write_str(match self {
+            Reason::Closed => "closed",
+            Reason::Empty => "empty",
+            Reason::Long => "long",
+            Reason::Full => "full",
+            Reason::Down => "down",
+        })
+    }
+}
+
 /// What a receiver tells of a candidate that ended.
 #[derive(Clone, Copy, Debug, PartialEq, Eq)]
 pub struct Report {
@@ -51,6 +67,19 @@ pub struct Report {
     pub codeblocks: usize,
     /// How many of those were corrected.
     pub corrections: usize,
+}
+
+/// The reason, the codeblocks and the corrections, as `closed 3 1`.
+impl fmt::Display for Report {
+    ghost output = { λ report. Some (report_text report) };
+
+    fn fmt<W: fmt::Write>(&self, f: &mut fmt::Formatter<W>) -> fmt::Result {
+        write!(
+            f,
+            "{} {} {}",
+            self.reason, self.codeblocks, self.corrections
+        )
+    }
 }
 
 // So many idle bits, if they are as many as it takes; and the promise.

@@ -20,16 +20,11 @@ returns-then-not-ends_right c =
 pub loop-i-init : goal.loop-i-init
 loop-i-init c = laid_none c.args.octets.now
 
-pub segment_end-requires : goal.segment_end-requires
-segment_end-requires c =
-    let end : RightEnd c.args.octets.now = c.if-not-ends_right.ensures.0 refl in
-    (omega (arith, c.told_count-i-end.ensures.below), omega (arith, c.loop-i.invariant.within, end.ends, end.most))
-
 pub returns-in_default : goal.returns-in_default
 returns-in_default c =
     let octets = c.args.octets.now in
     let end : RightEnd octets = c.if-not-ends_right.ensures.0 refl in
-    let before : c.loop-i.i < told_count octets = omega (arith, c.told_count-i-end.ensures.value) in
+    let before : c.loop-i.i < told_count octets = omega (arith, c.told_count-i-end.ensures) in
     record {
       tells = record {
         taken = λ e. absurd (false≢true e);
@@ -44,7 +39,7 @@ loop-i-preserved c =
     let i = c.loop-i.i in
     let place = c.loop-i.place in
     let end : RightEnd octets = c.if-not-ends_right.ensures.0 refl in
-    let before : i < told_count octets = omega (arith, c.told_count-i-end.ensures.value) in
+    let before : i < told_count octets = omega (arith, c.told_count-i-end.ensures) in
     let known = c.in-Some.ensures in
     subst (LaidTo octets _) (sym known.1) (laid_more octets (λ k. (c.type_inv.octets k).fits) end i place before c.loop-i.invariant known.0)
 
@@ -53,12 +48,12 @@ returns c =
     let octets = c.args.octets.now in
     let place = c.loop-i.place in
     let end : RightEnd octets = c.if-not-ends_right.ensures.0 refl in
-    let all : c.loop-i.i ≡ told_count octets = omega (arith, c.told_count-i-end.ensures.value) in
+    let all : c.loop-i.i ≡ told_count octets = omega (arith, c.told_count-i-end.ensures) in
     let laid : LaidTo octets (told_count octets) place = subst (λ n. LaidTo octets n place) all c.loop-i.invariant in
     record {
       tells = record {
-        taken = λ e. laid_all octets (λ k. (c.type_inv.octets k).fits) end place laid (eqb-true place c.told_place.result e ∙ c.told_place.ensures.value);
-        refused = λ e segments is. eqb-false place c.told_place.result e (ends_there octets (λ k. (c.type_inv.octets k).fits) end segments is place laid ∙ sym c.told_place.ensures.value);
+        taken = λ e. laid_all octets (λ k. (c.type_inv.octets k).fits) end place laid (eqb-true place c.told_place.result e ∙ c.told_place.ensures);
+        refused = λ e segments is. eqb-false place c.told_place.result e (ends_there octets (λ k. (c.type_inv.octets k).fits) end segments is place laid ∙ sym c.told_place.ensures);
       };
       one = one_list_of_segments octets;
     }
