@@ -17,15 +17,15 @@ use std::fmt;
 #[derive(Clone, Copy, Debug, PartialEq, Eq)]
 pub enum Reason {
     /// A codeblock was rejected after at least one was accepted: the candidate is finished.
-    Closed,
+    Closed = 1,
     /// The first codeblock was rejected.
-    Empty,
+    Empty = 2,
     /// A codeblock was accepted when as many as the limit already were.
-    Long,
+    Long = 3,
     /// The hold had no free space for an accepted codeblock.
-    Full,
+    Full = 4,
     /// The carrier went down.
-    Down,
+    Down = 5,
 }
 
 impl Reason {
@@ -33,13 +33,7 @@ impl Reason {
     pub fn number(self) -> u8
         ensures { result ≡ reason_number self }
     {
-        match self {
-            Reason::Closed => 1,
-            Reason::Empty => 2,
-            Reason::Long => 3,
-            Reason::Full => 4,
-            Reason::Down => 5,
-        }
+        self as u8
     }
 }
 
@@ -82,15 +76,6 @@ impl fmt::Display for Report {
     }
 }
 
-// So many idle bits, if they are as many as it takes; and the promise.
-fn promised(mode: Mode, limit: CodeblockLimit, bits: usize) -> usize
-    requires { bits ≡ recovery_bits mode limit.count }
-    ensures value { result ≡ bits }
-    ensures promise { (showing : Showing) → Promise (settings mode limit.count) showing }
-{
-    bits
-}
-
 /// How many idle bits bring a receiver with these settings back to SEARCH, whatever it received
 /// before: the guard time between commands, in bits. The idle may begin with either bit.
 pub fn recovery_bits(mode: Mode, limit: CodeblockLimit) -> usize
@@ -98,7 +83,7 @@ pub fn recovery_bits(mode: Mode, limit: CodeblockLimit) -> usize
     ensures promise { (showing : Showing) → Promise (settings mode limit.count) showing }
 {
     match mode {
-        Mode::Correcting => promised(mode, limit, 64 * limit.count() + 67),
-        Mode::Detecting => promised(mode, limit, 127),
+        Mode::Correcting => 64 * limit.count() + 67,
+        Mode::Detecting => 127,
     }
 }
