@@ -25,7 +25,7 @@ use std::alloc::{AllocError, Global};
 
 mod receiving;
 
-/// What is written of a pass so far, and how many reports and frames it has.
+// What is written of a pass so far, and how many reports and frames it has.
 #[derive(Drop)]
 struct PassLog {
     heap: Global,

@@ -217,7 +217,7 @@ impl<'a> Segment<'a> {
 }
 
 /// The segments of a pass record, in order.
-#[derive(Clone, Copy)]
+#[derive(Drop)]
 pub struct Segments<'a> {
     pass: PassRecord<'a>,
     // How many segments come before the next.
@@ -240,7 +240,7 @@ impl<'a> Iterator for Segments<'a> {
 }
 
 /// The symbols of a segment, in order.
-#[derive(Clone, Copy)]
+#[derive(Drop)]
 pub struct Bits<'a> {
     segment: Segment<'a>,
     // How many symbols come before the next.
