@@ -8,7 +8,7 @@ ghost use Rattle.reception.specs.Calls.{symbol_events};
 ghost use Rattle.pass_record.specs.Segments.{segments_in, symbols_in};
 ghost use Rattle.decoding.specs.Meaning.{rules_of, held_in};
 ghost use Rattle.pass_lines.specs.Lines.{report_line, frame_line, oldest_line, end_line};
-ghost use Rattle.pass_lines.specs.Progress.{progress_of, with_oldest, with_report, with_reports, Writes, GoesOn, Passed};
+ghost use Rattle.pass_lines.specs.Progress.{progress_of, with_report, with_reports, Writes, GoesOn, Passed};
 ghost use Rattle.pass_lines.specs.Answers.{rules, segment_events, pass_events, text_from, pass_text, Answers};
 
 use bch::Mode;
@@ -25,7 +25,7 @@ use std::alloc::{AllocError, Global};
 
 mod receiving;
 
-/// What is written of a pass so far, and how many reports and frames it has.
+// What is written of a pass so far, and how many reports and frames it has.
 #[derive(Drop)]
 struct PassLog {
     heap: Global,
@@ -44,7 +44,7 @@ impl PassLog {
         Ok(())
     }
 
-    // Writes a line for a candidate, which does not yet count.
+    // Writes a line for a candidate, which is not counted here.
     fn write_frame(&mut self, octets: &[u8]) -> Result<(), AllocError>
         ensures { OnOk result (Writes (frame_line octets.now) 0 0 self.old self.new) }
     {
@@ -54,16 +54,17 @@ impl PassLog {
         Ok(())
     }
 
-    // Writes a line for the oldest finished candidate; none where none waits. It does not yet count.
+    // Writes a line for the oldest finished candidate.
     fn write_oldest<H: Hold>(&mut self, receiver: &Receiver<H>) -> Result<(), AllocError>
-        ensures { OnOk result (Writes (oldest_line (H.Hold.finished receiver.now.hold)) 0 0 self.old self.new) }
+        ensures { OnOk result (Writes (oldest_line (H.Hold.finished receiver.now.hold)) 0 1 self.old self.new) }
     {
-        let Ok(octets) = receiver.oldest_length() else {
-            return Ok(());
-        };
-        let mut memory = vec![in self.heap; 0u8; octets]?;
-        let _ = receiver.copy_oldest(memory.as_mut_slice());
-        self.write_frame(memory.as_slice())
+        if let Ok(octets) = receiver.oldest_length() {
+            let mut memory = vec![in self.heap; 0u8; octets]?;
+            let _ = receiver.copy_oldest(memory.as_mut_slice());
+            self.write_frame(memory.as_slice())?;
+        }
+        self.frames = self.frames.saturating_add(1);
+        Ok(())
     }
 
     // The text, with its last line.
@@ -78,24 +79,15 @@ impl PassLog {
 }
 
 impl<H: Hold> Receiving<'_, H> {
-    // Writes the oldest finished candidate, and releases it.
-    fn tell_oldest(&mut self) -> Result<(), AllocError>
-        ensures { OnOk result (GoesOn H.Hold self.old self.new (with_oldest (progress_of H.Hold self.old))) }
-    {
-        self.log.write_oldest(&self.receiver)?;
-        self.log.frames = self.log.frames.saturating_add(1);
-        // Not refused: the candidate that was finished waits.
-        let _ = self.receiver.release();
-        Ok(())
-    }
-
     // Writes what a report tells. A candidate that was finished is written too, and released.
     fn tell(&mut self, report: Report) -> Result<(), AllocError>
         ensures { OnOk result (GoesOn H.Hold self.old self.new (with_report (progress_of H.Hold self.old) report)) }
     {
         self.log.write_report(report)?;
         if report.reason == Reason::Closed {
-            self.tell_oldest()?;
+            self.log.write_oldest(&self.receiver)?;
+            // Not refused: the candidate that was finished waits.
+            let _ = self.receiver.release();
         }
         Ok(())
     }

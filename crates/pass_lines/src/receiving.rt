@@ -11,7 +11,7 @@ use reception::Report;
 #[derive(Drop)]
 pub(crate) struct Receiving<'a, H: Hold> {
     pub(crate) receiver: Receiver<H>,
-    /// What the receiver reports, until it is written.
+    // What the receiver reports, until it is written: between the calls nothing waits here.
     pub(crate) queue: Queue<'a, Report>,
     pub(crate) log: PassLog,
     ghost nothing_waits: { length (waiting queue) ≡ 0 },

@@ -2,13 +2,14 @@
 use Rattle.std.proofs.Common.{◌≡◌, ℕ, ◌+◌, ◌-◌, ◌*◌, ◌%◌, ◌^◌, ◌<◌, ◌≤◌, Bool, List, [], ◌∷◌, ◌++◌, length, get_or, take, drop, sym, refl, ap, ◌∙◌, subst, ap₂, zero-add, arith, take-add}
 use Rattle.std.specs.List.{flat_map, AllByRecursion}
 use Rattle.std.proofs.lemmas.List.FromFn.{length-map-range_with_len, take-map-range_with_len, map-range_with_len_more}
+use Rattle.std.proofs.lemmas.Grind.{flat_map-append}
 use Rattle.std.proofs.ByRecursion.{All-push}
 use Rattle.std.proofs.lemmas.List.{append-nil, length-drop, length-take-le, drop-drop, get_or-drop, take-append-drop, take_all}
 use Rattle.pass_record.specs.Record.{octets_for, packed, four_octets, entry, entries, IsRecord}
 use Rattle.pass_record.specs.Reading.{unused, told_count, told_place, told_begin, told_size, told_segment, first_segments, told_segments, RightEnd, RightEntry}
 use Rattle.pass_record.proofs.Numbers.{number_written}
 use Rattle.pass_record.proofs.Packing.{length_first_bits, repacked}
-use Rattle.pass_record.proofs.Places.{joined_append, entries_append, count_told, place_told, right_entry, segments_are_told}
+use Rattle.pass_record.proofs.Places.{entries_append, count_told, place_told, right_entry, segments_are_told}
 
 -- the first i entries are right, and the segments that they tell end at the place
 pub record LaidTo (octets : List ℕ) (i place : ℕ) : Type 0 where
@@ -61,7 +62,7 @@ module _ (octets : List ℕ) (fits : (k : ℕ) → get_or octets k 0 < 256) (end
     more_symbols : take (place + m) octets ≡ flat_map packed (first_segments octets (i + 1))
     more_symbols =
         take-add place m octets ∙ ap₂ ◌++◌ laid.symbols (sym (append-nil (packed (told_segment octets i)) ∙ segment_octets))
-        ∙ sym (ap (flat_map packed) more_segments ∙ joined_append packed before (told_segment octets i ∷ []))
+        ∙ sym (ap (flat_map packed) more_segments ∙ flat_map-append packed before (told_segment octets i ∷ []))
 
     entry_octets : entry (0 + length (flat_map packed before)) (told_segment octets i) ≡ take 8 (drop (8 * i) (drop (told_place octets) octets))
     entry_octets =

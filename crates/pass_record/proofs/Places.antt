@@ -3,6 +3,7 @@ use Rattle.std.proofs.Common.{◌≡◌, ℕ, suc, ◌+◌, ◌-◌, ◌*◌, �
 use lib.Seq.{split_at}
 use Rattle.std.specs.List.{flat_map}
 use Rattle.std.proofs.lemmas.List.FromFn.{fill_by_all}
+use Rattle.std.proofs.lemmas.Grind.{flat_map-append}
 use Rattle.std.proofs.ByRecursion.{All-get_or}
 use Rattle.std.proofs.lemmas.List.{append_assoc, length-append, length-take-le, drop_at, get_or-drop, get_or_append_left}
 use Rattle.bch.specs.Bits.{bits_of}
@@ -10,10 +11,6 @@ use Rattle.pass_record.specs.Record.{octets_for, packed, four_octets, entry, ent
 use Rattle.pass_record.specs.Reading.{number_at, unused, told_count, told_place, told_begin, told_size, told_segment, told_segments, RightEnd, RightEntry}
 use Rattle.pass_record.proofs.Numbers.{number_read}
 use Rattle.pass_record.proofs.Packing.{length_packed, unpacked, last_padded}
-
-pub joined_append : {X A : Type 0} (f : X → List A) (xs ys : List X) → flat_map f (xs ++ ys) ≡ flat_map f xs ++ flat_map f ys
-joined_append f [] ys = refl
-joined_append f (x ∷ xs) ys = ap (λ l. f x ++ l) (joined_append f xs ys) ∙ sym (append_assoc (f x) (flat_map f xs) (flat_map f ys))
 
 pub length_entries : (place : ℕ) (segments : List (List Bool)) → length (entries place segments) ≡ 8 * length segments
 length_entries place [] = refl
@@ -83,7 +80,7 @@ module _ (octets : List ℕ) (segments : List (List Bool)) (is : IsRecord octets
     parts = split_at segments i [] h
 
     symbols_apart : symbols ≡ flat_map packed xs ++ (packed s ++ flat_map packed ys)
-    symbols_apart = ap (flat_map packed) parts ∙ joined_append packed xs (s ∷ ys)
+    symbols_apart = ap (flat_map packed) parts ∙ flat_map-append packed xs (s ∷ ys)
 
     length_symbols : length symbols ≡ begin + length (packed s) + length (flat_map packed ys)
     length_symbols =

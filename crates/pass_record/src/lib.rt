@@ -104,8 +104,7 @@ fn segment_end(octets: &[u8], i: u32, begin: u32) -> Option<u32>
 
 // Whether octets are laid out as a record.
 fn is_laid_out(octets: &[u8]) -> bool
-    ensures tells { Tells octets.now result }
-    ensures one { OneListOfSegments octets.now }
+    ensures { Tells octets.now result }
 {
     if !ends_right(octets) {
         return false;
@@ -124,6 +123,7 @@ fn is_laid_out(octets: &[u8]) -> bool
 impl<'a> PassRecord<'a> {
     /// The record in these octets. Refused with `RecordLayout` exactly where they are not laid out as
     /// a pass record, whatever its segments.
+    #[tactic(auto, using(crate::proofs::Places::one_list_of_segments))]
     pub fn read(octets: &'a [u8]) -> Result<PassRecord<'a>, Refusal>
         ensures answer { MatchResult result (λ pass. IsRecord octets.now (segments_in pass)) (RefusedLayout octets.now) }
         ensures one { OneListOfSegments octets.now }
@@ -143,6 +143,7 @@ impl<'a> PassRecord<'a> {
     }
 
     // The segment i, as its entry tells.
+    #[tactic(auto, using(crate::proofs::Within::segment_within, crate::proofs::Within::segment_there))]
     fn told_segment(&self, i: u32) -> Segment<'a>
         requires { i < told_count self.now.octets.now }
         ensures { slice_get (segments_in self.now) i ≡ Some (symbols_in result) }
@@ -216,7 +217,7 @@ impl<'a> Segment<'a> {
 }
 
 /// The segments of a pass record, in order.
-#[derive(Clone, Copy)]
+#[derive(Drop)]
 pub struct Segments<'a> {
     pass: PassRecord<'a>,
     // How many segments come before the next.
@@ -239,7 +240,7 @@ impl<'a> Iterator for Segments<'a> {
 }
 
 /// The symbols of a segment, in order.
-#[derive(Clone, Copy)]
+#[derive(Drop)]
 pub struct Bits<'a> {
     segment: Segment<'a>,
     // How many symbols come before the next.

@@ -1,6 +1,6 @@
 -- A record, and what is none. Assumes nothing.
-use Rattle.std.proofs.Common.{◌≡◌, ℕ, List, [], ◌∷◌, ◌++◌, codes, decimal, string_bytes, ap, ◌∙◌, arith}
-use Rattle.std.proofs.lemmas.Fmt.{decimal_step, decimal_digit}
+use Rattle.std.proofs.Common.{◌≡◌, ◌++◌, codes, decimal, string_bytes, refl, ap, ◌∙◌}
+use Rattle.std.specs.Fmt.{digits}
 use Rattle.std.proofs.lemmas.Result.{IfOk-weaker}
 use Rattle.refusals.specs.Numbers.{refusal_text}
 use Rattle.pass_record.specs.Segments.{segments_in}
@@ -18,7 +18,8 @@ returns-in-Ok c =
     c.pass_text.ensures
 
 sixteen : decimal 16 ≡ codes "16"
-sixteen = decimal_step 16 (omega arith) (omega arith) ∙ ap (λ (digits : List ℕ). digits ++ 54 ∷ []) (decimal_digit 1 (omega arith))
+unfolding digits
+sixteen = refl
 
 pub returns-in-Err : goal.returns-in-Err
 returns-in-Err c =
