@@ -4,8 +4,8 @@
 use anyhow::Context;
 use bch::{Mode, Verdict};
 use cltu::{CodeblockLimit, Sender};
-use command_line::{Program, Task};
 use coding::{codeblock, judge};
+use command_line::{Program, Task};
 use decoding::Settings;
 use hold::{Hold, copy_oldest};
 use queue::Queue;
@@ -53,12 +53,6 @@ const SYMBOLS: usize = 4_096;
 
 const CLTU_BEGINS: usize = 1_000;
 
-/// The start sequence EB 90.
-const START: [bool; 16] = [
-    true, true, true, false, true, false, true, true, true, false, false, true, false, false,
-    false, false,
-];
-
 const NO_REPORT: Report = Report {
     reason: Reason::Empty,
     codeblocks: 0,
@@ -66,29 +60,41 @@ const NO_REPORT: Report = Report {
 };
 
 /// What is measured.
-#[derive(Drop)]
-struct Work<F> {
+trait Work {
     /// How many operations a round has.
-    operations: u64,
+    fn operations(&self) -> u64;
+
     /// Does so many operations in this round, and answers a number that depends on all their answers.
-    checksum: F,
+    fn checksum(&self, operations: u64, round: u64) -> u64;
 }
 
 fn folded(checksum: u64, answer: u64) -> u64 {
     checksum.wrapping_mul(31).wrapping_add(answer)
 }
 
+/// Octets of the randomizer's sequence, at places from this one on.
+#[derive(Clone, Copy)]
+struct Sequence {
+    first: usize,
+}
+
 // Sums a thousand octets at a time. Each repetition begins one place further than the last, so that
 // none is the same as the one before, and begins again after eight.
-fn sequence_checksum(first: usize, operations: u64, round: u64) -> u64 {
-    let mut sum: u64 = round;
-    for repetition in 0..operations / PLACES {
-        let from = first.wrapping_add((repetition & 7) as usize);
-        for place in from..from.saturating_add(PLACES as usize) {
-            sum = sum.wrapping_add(u64::from(sequence_octet(place)));
-        }
+impl Work for Sequence {
+    fn operations(&self) -> u64 {
+        50_000_000
     }
-    sum
+
+    fn checksum(&self, operations: u64, round: u64) -> u64 {
+        let mut sum: u64 = round;
+        for repetition in 0..operations / PLACES {
+            let from = self.first.wrapping_add((repetition & 7) as usize);
+            for place in from..from.saturating_add(PLACES as usize) {
+                sum = sum.wrapping_add(u64::from(sequence_octet(place)));
+            }
+        }
+        sum
+    }
 }
 
 // The information of the codeblock with this number: different octets, spread over all values.
@@ -126,19 +132,62 @@ fn codeblocks_checksum<F: Fn([u8; 7]) -> [u8; 8]>(make: F, operations: u64, roun
     checksum
 }
 
+/// Codeblocks, by the table.
+#[derive(Clone, Copy)]
+struct Table;
+
+impl Work for Table {
+    fn operations(&self) -> u64 {
+        8_000_000
+    }
+
+    fn checksum(&self, operations: u64, round: u64) -> u64 {
+        codeblocks_checksum(codeblock, operations, round)
+    }
+}
+
+/// Codeblocks, by the shift register.
+#[derive(Clone, Copy)]
+struct ShiftRegister;
+
+impl Work for ShiftRegister {
+    fn operations(&self) -> u64 {
+        1_000_000
+    }
+
+    fn checksum(&self, operations: u64, round: u64) -> u64 {
+        codeblocks_checksum(shift_register_codeblock, operations, round)
+    }
+}
+
+/// Verdicts on codeblocks to which these wrong bits were added.
+#[derive(Clone, Copy)]
+struct Judging {
+    wrong: u64,
+}
+
 // Judges 1,000 codeblocks, made beforehand, again and again.
-fn judge_checksum(wrong: u64, operations: u64, round: u64) -> u64 {
-    let words: [u64; 1_000] = array::from_fn(|k| {
-        let block = codeblock(information(round.wrapping_add(k as u64)));
-        u64::from_be_bytes(block) ^ wrong
-    });
-    let mut checksum: u64 = round;
-    for _ in 0..operations / 1_000 {
-        for word in &words {
-            checksum = folded(checksum, judged_number(judge(Mode::Correcting, *word)));
+impl Work for Judging {
+    fn operations(&self) -> u64 {
+        match self.wrong {
+            0 | 2 => 6_000_000,
+            _ => 1_000_000,
         }
     }
-    checksum
+
+    fn checksum(&self, operations: u64, round: u64) -> u64 {
+        let words: [u64; 1_000] = array::from_fn(|k| {
+            let block = codeblock(information(round.wrapping_add(k as u64)));
+            u64::from_be_bytes(block) ^ self.wrong
+        });
+        let mut checksum: u64 = round;
+        for _ in 0..operations / 1_000 {
+            for word in &words {
+                checksum = folded(checksum, judged_number(judge(Mode::Correcting, *word)));
+            }
+        }
+        checksum
+    }
 }
 
 fn judged_number(verdict: Verdict) -> u64 {
@@ -151,68 +200,94 @@ fn judged_number(verdict: Verdict) -> u64 {
     }
 }
 
-fn write_checksum(sender: Sender, operations: u64, round: u64) -> u64 {
-    let mut frame = [0x55u8; FRAME_OCTETS];
-    let mut memory = [0u8; CLTU_OCTETS];
-    written_checksum(sender, &mut frame, &mut memory, operations, round)
+/// CLTUs of a frame of 1,024 octets.
+#[derive(Clone, Copy)]
+struct Writing {
+    sender: Sender,
 }
 
 // Writes the frame again and again, and changes an octet of it each time.
-fn written_checksum(
-    sender: Sender,
-    frame: &mut [u8],
-    memory: &mut [u8],
-    operations: u64,
-    round: u64,
-) -> u64 {
-    let mut checksum: u64 = round;
-    for number in 0..operations {
-        let place = (number & 1_023) as usize;
-        if let Some(octet) = frame.get_mut(place) {
-            *octet = (number & 255) as u8;
-        }
-        let octets = sender.write_cltu(frame, memory).unwrap_or(0);
-        let octet = memory.get(place).copied().unwrap_or(0);
-        checksum = folded(checksum, (octets as u64).wrapping_add(u64::from(octet)));
+impl Work for Writing {
+    fn operations(&self) -> u64 {
+        40_000
     }
-    checksum
+
+    fn checksum(&self, operations: u64, round: u64) -> u64 {
+        let mut frame = [0x55u8; FRAME_OCTETS];
+        let mut memory = [0u8; CLTU_OCTETS];
+        let mut checksum: u64 = round;
+        for number in 0..operations {
+            let place = (number & 1_023) as usize;
+            frame[place] = (number & 255) as u8;
+            let octets = self.sender.write_cltu(&frame, &mut memory).unwrap_or(0);
+            checksum = folded(
+                checksum,
+                (octets as u64).wrapping_add(u64::from(memory[place])),
+            );
+        }
+        checksum
+    }
+}
+
+/// Calls of a ring of so many cells.
+#[derive(Clone, Copy)]
+struct RingCalls {
+    cells: usize,
 }
 
 // A candidate of two codeblocks comes and goes: eight calls each time.
-fn ring_checksum<const CELLS: usize>(operations: u64, round: u64) -> u64 {
-    let mut cells = [Cell::EMPTY; CELLS];
-    let mut ring = Ring::new(&mut cells);
-    let mut checksum: u64 = round;
-    for number in 0..operations / 8 {
-        let _ = ring.open();
-        let _ = ring.add(information(number));
-        let _ = ring.add(information(round));
-        let _ = ring.finish();
-        let octet = ring.oldest_octet(3).unwrap_or(0);
-        let octets = ring.oldest_length().unwrap_or(0);
-        let _ = ring.release();
-        let free = ring.free_space() as u64;
-        checksum = folded(
-            checksum,
-            u64::from(octet)
-                .wrapping_add(octets as u64)
-                .wrapping_add(free),
-        );
+impl Work for RingCalls {
+    fn operations(&self) -> u64 {
+        8_000_000
     }
-    checksum
+
+    fn checksum(&self, operations: u64, round: u64) -> u64 {
+        let mut cells = [Cell::EMPTY; MANY_CELLS];
+        let mut ring = Ring::new(&mut cells[..self.cells.min(MANY_CELLS)]);
+        let mut checksum: u64 = round;
+        for number in 0..operations / 8 {
+            let _ = ring.open();
+            let _ = ring.add(information(number));
+            let _ = ring.add(information(round));
+            let _ = ring.finish();
+            let octet = ring.oldest_octet(3).unwrap_or(0);
+            let octets = ring.oldest_length().unwrap_or(0);
+            let _ = ring.release();
+            let free = ring.free_space() as u64;
+            checksum = folded(
+                checksum,
+                u64::from(octet)
+                    .wrapping_add(octets as u64)
+                    .wrapping_add(free),
+            );
+        }
+        checksum
+    }
 }
 
-fn copy_checksum(codeblocks: usize, operations: u64, round: u64) -> u64 {
-    let mut cells = [Cell::EMPTY; 147];
-    let mut ring = Ring::new(&mut cells);
-    let _ = ring.open();
-    for _ in 0..codeblocks {
-        let _ = ring.add(information(round));
+/// Octets copied of a candidate of so many codeblocks.
+#[derive(Clone, Copy)]
+struct Copying {
+    codeblocks: usize,
+}
+
+impl Work for Copying {
+    fn operations(&self) -> u64 {
+        40_000_000
     }
-    let _ = ring.finish();
-    let mut memory = [0u8; 1_029];
-    let octets = (codeblocks as u64).saturating_mul(7).max(1);
-    copied_checksum(&ring, &mut memory, operations / octets, round)
+
+    fn checksum(&self, operations: u64, round: u64) -> u64 {
+        let mut cells = [Cell::EMPTY; 147];
+        let mut ring = Ring::new(&mut cells);
+        let _ = ring.open();
+        for _ in 0..self.codeblocks {
+            let _ = ring.add(information(round));
+        }
+        let _ = ring.finish();
+        let mut memory = [0u8; 1_029];
+        let octets = (self.codeblocks as u64).saturating_mul(7).max(1);
+        copied_checksum(&ring, &mut memory, operations / octets, round)
+    }
 }
 
 fn copied_checksum<H: Hold>(hold: &H, memory: &mut [u8], copies: u64, round: u64) -> u64 {
@@ -278,6 +353,36 @@ fn received_checksum<S: Symbol>(pass: &[S], a_call: usize, operations: u64, roun
     checksum
 }
 
+/// Symbols received as bits, so many a call.
+#[derive(Clone, Copy)]
+struct Bits {
+    a_call: usize,
+}
+
+impl Work for Bits {
+    fn operations(&self) -> u64 {
+        40_960_000
+    }
+
+    fn checksum(&self, operations: u64, round: u64) -> u64 {
+        received_checksum(&pass_bits(round), self.a_call, operations, round)
+    }
+}
+
+/// Symbols received as soft levels.
+#[derive(Clone, Copy)]
+struct Levels;
+
+impl Work for Levels {
+    fn operations(&self) -> u64 {
+        40_960_000
+    }
+
+    fn checksum(&self, operations: u64, round: u64) -> u64 {
+        received_checksum(&pass_levels(round), SYMBOLS, operations, round)
+    }
+}
+
 /// The rival: bits in arrays, a window that is moved bit by bit, and the code by a shift register.
 #[derive(Drop)]
 struct PlainReceiver {
@@ -304,13 +409,20 @@ impl PlainReceiver {
     }
 
     // How many bits of the window differ from the start sequence.
-    fn wrong_bits(&self) -> usize {
-        let pairs = self.window.iter().zip(&START);
-        pairs.filter(|(bit, sent)| bit != sent).count()
+    fn wrong_bits(&self) -> u32 {
+        let mut wrong = 0u32;
+        for (place, bit) in self.window.iter().enumerate() {
+            if *bit != ((0xEB90u16 >> (15 - place % 16)) & 1 == 1) {
+                wrong = wrong.saturating_add(1);
+            }
+        }
+        wrong
     }
 
     fn search(&mut self, bit: bool) {
-        self.window.rotate_left(1);
+        for place in 0..15usize {
+            self.window[place] = self.window[place + 1];
+        }
         self.window[15] = bit;
         self.entered = self.entered.saturating_add(1).min(16);
         if self.entered == 16 && self.wrong_bits() <= 1 {
@@ -338,7 +450,9 @@ impl PlainReceiver {
         let begins = (self.codeblocks & 0xFF) as usize * 7;
         if let Some(cells) = self.candidate.get_mut(begins..begins + 7) {
             for (cell, bits) in cells.iter_mut().zip(self.block.chunks(8)) {
-                *cell = bits.iter().fold(0, |octet, bit| (octet << 1) | u8::from(*bit));
+                *cell = bits
+                    .iter()
+                    .fold(0, |octet, bit| (octet << 1) | u8::from(*bit));
             }
         }
         self.codeblocks = self.codeblocks.saturating_add(1);
@@ -368,7 +482,20 @@ impl PlainReceiver {
     }
 }
 
-/// The same pass by the rival, which detects wrong bits and corrects none.
+/// Symbols received by the rival, which detects wrong bits and corrects none.
+#[derive(Clone, Copy)]
+struct PlainBits;
+
+impl Work for PlainBits {
+    fn operations(&self) -> u64 {
+        4_096_000
+    }
+
+    fn checksum(&self, operations: u64, round: u64) -> u64 {
+        plain_checksum(&pass_bits(round), operations, round)
+    }
+}
+
 fn plain_checksum(pass: &[bool], operations: u64, round: u64) -> u64 {
     let mut plain = PlainReceiver::new();
     let mut checksum: u64 = round;
@@ -431,41 +558,39 @@ impl Measured {
     }
 }
 
-impl<F: Fn(u64, u64) -> u64> Work<F> {
-    // The time of one round, whose answers are folded into the sum.
-    fn round_nanos<R: Clock>(&self, rt: &R, round: u64, sum: &mut u64) -> anyhow::Result<u64>
-        requires { F.IsAlwaysCallable self.now.checksum }
-    {
-        let start = Instant::now(rt)?;
-        *sum = folded(*sum, (self.checksum)(self.operations, round));
-        let spent = start.elapsed(rt)?;
-        Ok(u64::try_from(spent.as_nanos()).unwrap_or(u64::MAX))
-    }
+// The time of one round, whose answers are folded into the sum.
+fn round_nanos(
+    rt: &impl Clock,
+    work: &impl Work,
+    round: u64,
+    sum: &mut u64,
+) -> anyhow::Result<u64> {
+    let start = Instant::now(rt)?;
+    *sum = folded(*sum, work.checksum(work.operations(), round));
+    let spent = start.elapsed(rt)?;
+    Ok(u64::try_from(spent.as_nanos()).unwrap_or(u64::MAX))
 }
 
 // Measures both in turn, and prints the line that compares them.
-fn compare<R: Print + Clock, F: Fn(u64, u64) -> u64, G: Fn(u64, u64) -> u64>(
-    rt: &R,
+fn compare(
+    rt: &(impl Print + Clock),
     name: &str,
-    subject: &Work<F>,
-    rival: &Work<G>,
-) -> anyhow::Result<(Measured, Measured)>
-    requires subject { F.IsAlwaysCallable subject.now.checksum }
-    requires rival { G.IsAlwaysCallable rival.now.checksum }
-{
+    subject: &impl Work,
+    rival: &impl Work,
+) -> anyhow::Result<(Measured, Measured)> {
     let mut here = Measured {
         nanos: u64::MAX,
-        operations: subject.operations,
+        operations: subject.operations(),
     };
     let mut there = Measured {
         nanos: u64::MAX,
-        operations: rival.operations,
+        operations: rival.operations(),
     };
     let mut checksum: u64 = 0;
     for round in 0..ROUNDS {
-        let nanos = subject.round_nanos(rt, round, &mut checksum)?;
+        let nanos = round_nanos(rt, subject, round, &mut checksum)?;
         here.nanos = here.nanos.min(nanos);
-        let nanos = rival.round_nanos(rt, round, &mut checksum)?;
+        let nanos = round_nanos(rt, rival, round, &mut checksum)?;
         there.nanos = there.nanos.min(nanos);
     }
     let time = here.nanos_an_operation();
@@ -476,14 +601,8 @@ fn compare<R: Print + Clock, F: Fn(u64, u64) -> u64, G: Fn(u64, u64) -> u64>(
 }
 
 // Whether two works give the same answers.
-fn agreement<F: Fn(u64, u64) -> u64, G: Fn(u64, u64) -> u64>(
-    subject: &Work<F>,
-    rival: &Work<G>,
-) -> &'static str
-    requires subject { F.IsAlwaysCallable subject.now.checksum }
-    requires rival { G.IsAlwaysCallable rival.now.checksum }
-{
-    if (subject.checksum)(100_000, 0) == (rival.checksum)(100_000, 0) {
+fn agreement(subject: &impl Work, rival: &impl Work) -> &'static str {
+    if subject.checksum(100_000, 0) == rival.checksum(100_000, 0) {
         "agree"
     } else {
         "DIFFER"
@@ -496,14 +615,8 @@ fn octets_a_microsecond(measured: Measured) -> Hundredths {
 }
 
 fn time_sequence(rt: &(impl Print + Clock)) -> anyhow::Result<()> {
-    let near = Work {
-        operations: 50_000_000,
-        checksum: |operations, round| sequence_checksum(0, operations, round),
-    };
-    let far = Work {
-        operations: 50_000_000,
-        checksum: |operations, round| sequence_checksum(1_000_000, operations, round),
-    };
+    let near = Sequence { first: 0 };
+    let far = Sequence { first: 1_000_000 };
     let _ = compare(
         rt,
         "sequence octet, places from 1,000,000 against from 0",
@@ -514,14 +627,8 @@ fn time_sequence(rt: &(impl Print + Clock)) -> anyhow::Result<()> {
 }
 
 fn time_codeblock(rt: &(impl Print + Clock)) -> anyhow::Result<()> {
-    let table = Work {
-        operations: 8_000_000,
-        checksum: |operations, round| codeblocks_checksum(codeblock, operations, round),
-    };
-    let register = Work {
-        operations: 1_000_000,
-        checksum: |operations, round| codeblocks_checksum(shift_register_codeblock, operations, round),
-    };
+    let table = Table;
+    let register = ShiftRegister;
     let _ = compare(
         rt,
         "codeblock, shift register against table",
@@ -534,18 +641,9 @@ fn time_codeblock(rt: &(impl Print + Clock)) -> anyhow::Result<()> {
 }
 
 fn time_verdict(rt: &(impl Print + Clock)) -> anyhow::Result<()> {
-    let undamaged = Work {
-        operations: 6_000_000,
-        checksum: |operations, round| judge_checksum(0, operations, round),
-    };
-    let lowest = Work {
-        operations: 6_000_000,
-        checksum: |operations, round| judge_checksum(2, operations, round),
-    };
-    let highest = Work {
-        operations: 1_000_000,
-        checksum: |operations, round| judge_checksum(1 << 63, operations, round),
-    };
+    let undamaged = Judging { wrong: 0 };
+    let lowest = Judging { wrong: 2 };
+    let highest = Judging { wrong: 1 << 63 };
     let _ = compare(
         rt,
         "verdict, wrong bit at degree 0 against undamaged",
@@ -570,18 +668,16 @@ fn time_writing(rt: &(impl Print + Clock)) -> anyhow::Result<()> {
     let limit = CodeblockLimit::new(147)
         .ok()
         .context("benchmarks: no such limit")?;
-    let on = Work {
-        operations: 40_000,
-        checksum: |operations, round| {
-            let randomizer = Randomizer::On;
-            write_checksum(Sender { limit, randomizer }, operations, round)
+    let on = Writing {
+        sender: Sender {
+            limit,
+            randomizer: Randomizer::On,
         },
     };
-    let off = Work {
-        operations: 40_000,
-        checksum: |operations, round| {
-            let randomizer = Randomizer::Off;
-            write_checksum(Sender { limit, randomizer }, operations, round)
+    let off = Writing {
+        sender: Sender {
+            limit,
+            randomizer: Randomizer::Off,
         },
     };
     let (with, without) = compare(
@@ -597,23 +693,11 @@ fn time_writing(rt: &(impl Print + Clock)) -> anyhow::Result<()> {
 }
 
 fn time_ring(rt: &(impl Print + Clock)) -> anyhow::Result<()> {
-    let large = Work {
-        operations: 8_000_000,
-        checksum: ring_checksum::<MANY_CELLS>,
-    };
-    let small = Work {
-        operations: 8_000_000,
-        checksum: ring_checksum::<FEW_CELLS>,
-    };
+    let large = RingCalls { cells: MANY_CELLS };
+    let small = RingCalls { cells: FEW_CELLS };
     let _ = compare(rt, "call of a ring, 8,192 cells against 8", &large, &small)?;
-    let long = Work {
-        operations: 40_000_000,
-        checksum: |operations, round| copy_checksum(147, operations, round),
-    };
-    let short = Work {
-        operations: 40_000_000,
-        checksum: |operations, round| copy_checksum(7, operations, round),
-    };
+    let long = Copying { codeblocks: 147 };
+    let short = Copying { codeblocks: 7 };
     let _ = compare(
         rt,
         "octet of a copy, candidate of 147 codeblocks against 7",
@@ -624,38 +708,22 @@ fn time_ring(rt: &(impl Print + Clock)) -> anyhow::Result<()> {
 }
 
 fn time_symbols(rt: &(impl Print + Clock)) -> anyhow::Result<()> {
-    let bits = Work {
-        operations: 40_960_000,
-        checksum: |operations, round| {
-            received_checksum(&pass_bits(round), SYMBOLS, operations, round)
-        },
-    };
-    let plain = Work {
-        operations: 4_096_000,
-        checksum: |operations, round| plain_checksum(&pass_bits(round), operations, round),
-    };
+    let bits = Bits { a_call: SYMBOLS };
+    let plain = PlainBits;
     let _ = compare(
         rt,
         "symbol received, plain rival against receiver",
         &plain,
         &bits,
     )?;
-    let single = Work {
-        operations: 40_960_000,
-        checksum: |operations, round| received_checksum(&pass_bits(round), 1, operations, round),
-    };
+    let single = Bits { a_call: 1 };
     let _ = compare(
         rt,
         "symbol received, one a call against 4,096 a call",
         &single,
         &bits,
     )?;
-    let levels = Work {
-        operations: 40_960_000,
-        checksum: |operations, round| {
-            received_checksum(&pass_levels(round), SYMBOLS, operations, round)
-        },
-    };
+    let levels = Levels;
     let _ = compare(
         rt,
         "symbol received, soft levels against bits",
