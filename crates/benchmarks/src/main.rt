@@ -1,10 +1,11 @@
 //! `benchmarks`: what the code costs, against rivals in the same run.
 #![tactic(auto)]
 
-use anyhow::anyhow;
+use anyhow::Context;
 use bch::{Mode, Verdict};
 use cltu::{CodeblockLimit, Sender};
 use coding::{codeblock, judge};
+use command_line::{Program, Task};
 use decoding::Settings;
 use hold::{Hold, copy_oldest};
 use queue::Queue;
@@ -14,8 +15,9 @@ use reception::{Reason, Report};
 use ring::{Cell, Ring};
 use searching::Symbol;
 use std::process::ExitCode;
+use std::rt::Clock;
 use std::time::Instant;
-use std::{env, fmt};
+use std::{array, fmt};
 
 const HELP: &str = "\
 benchmarks: what the code costs, against rivals in the same run
@@ -33,7 +35,7 @@ The times differ from run to run, so without an argument nothing is measured.";
 const ROUNDS: u64 = 5;
 
 /// How many places of the sequence one repetition reads.
-const PLACES: usize = 1_000;
+const PLACES: u64 = 1_000;
 
 /// How many cells the large ring has, and the small one.
 const MANY_CELLS: usize = 8_192;
@@ -58,84 +60,41 @@ const NO_REPORT: Report = Report {
 };
 
 /// What is measured.
-#[derive(Drop)]
-enum Work {
-    /// Octets of the randomizer's sequence, at places from this one on.
-    Sequence(usize),
-    /// Codeblocks, by the table.
-    Table,
-    /// Codeblocks, by the shift register.
-    ShiftRegister,
-    /// Verdicts on codeblocks to which these wrong bits were added.
-    Judge(u64),
-    /// CLTUs of a frame of 1,024 octets.
-    Write(Sender),
-    /// Calls of a ring of few cells.
-    SmallRing,
-    /// Calls of a ring of many cells.
-    LargeRing,
-    /// Octets copied of a candidate of so many codeblocks.
-    Copy(usize),
-    /// Symbols received as bits, so many a call.
-    Bits(usize),
-    /// Symbols received as soft levels.
-    Levels,
-    /// Symbols received by a plain rival.
-    PlainBits,
-}
+trait Work {
+    /// How many operations a round has.
+    fn operations(&self) -> u64;
 
-impl Work {
-    // How many operations a round has.
-    fn operations(&self) -> u64 {
-        match self {
-            Work::Sequence(_) => 50_000_000,
-            Work::Table => 8_000_000,
-            Work::ShiftRegister => 1_000_000,
-            Work::Judge(0 | 2) => 6_000_000,
-            Work::Judge(_) => 1_000_000,
-            Work::Write(_) => 40_000,
-            Work::SmallRing | Work::LargeRing => 8_000_000,
-            Work::Copy(_) => 40_000_000,
-            Work::Bits(_) | Work::Levels => 40_960_000,
-            Work::PlainBits => 4_096_000,
-        }
-    }
-
-    // Does so many operations, and answers a number that depends on all their answers.
-    fn checksum(&self, operations: u64, round: u64) -> u64 {
-        match self {
-            Work::Sequence(first) => sequence_checksum(*first, operations, round),
-            Work::Table => table_checksum(operations, round),
-            Work::ShiftRegister => shift_register_checksum(operations, round),
-            Work::Judge(wrong) => judge_checksum(*wrong, operations, round),
-            Work::Write(sender) => write_checksum(*sender, operations, round),
-            Work::SmallRing => small_ring_checksum(operations, round),
-            Work::LargeRing => large_ring_checksum(operations, round),
-            Work::Copy(codeblocks) => copy_checksum(*codeblocks, operations, round),
-            Work::Bits(a_call) => {
-                received_checksum(&pass_bits(round), *a_call, operations, round)
-            }
-            Work::Levels => received_checksum(&pass_levels(round), SYMBOLS, operations, round),
-            Work::PlainBits => plain_checksum(&pass_bits(round), operations, round),
-        }
-    }
+    /// Does so many operations in this round, and answers a number that depends on all their answers.
+    fn checksum(&self, operations: u64, round: u64) -> u64;
 }
 
 fn folded(checksum: u64, answer: u64) -> u64 {
     checksum.wrapping_mul(31).wrapping_add(answer)
 }
 
+/// Octets of the randomizer's sequence, at places from this one on.
+#[derive(Clone, Copy)]
+struct Sequence {
+    first: usize,
+}
+
 // Sums a thousand octets at a time. Each repetition begins one place further than the last, so that
 // none is the same as the one before, and begins again after eight.
-fn sequence_checksum(first: usize, operations: u64, round: u64) -> u64 {
-    let mut sum: u64 = round;
-    for repetition in 0..operations / 1_000 {
-        let from = first.wrapping_add((repetition & 7) as usize);
-        for k in 0..PLACES {
-            sum = sum.wrapping_add(u64::from(sequence_octet(from.wrapping_add(k))));
-        }
+impl Work for Sequence {
+    fn operations(&self) -> u64 {
+        50_000_000
     }
-    sum
+
+    fn checksum(&self, operations: u64, round: u64) -> u64 {
+        let mut sum: u64 = round;
+        for repetition in 0..operations / PLACES {
+            let from = self.first.wrapping_add((repetition & 7) as usize);
+            for place in from..from.saturating_add(PLACES as usize) {
+                sum = sum.wrapping_add(u64::from(sequence_octet(place)));
+            }
+        }
+        sum
+    }
 }
 
 // The information of the codeblock with this number: different octets, spread over all values.
@@ -161,39 +120,74 @@ fn shift_register_codeblock(information: [u8; 7]) -> [u8; 8] {
     [a, b, c, d, e, f, g, (register ^ 0x7F) << 1]
 }
 
-fn table_checksum(operations: u64, round: u64) -> u64 {
+// Makes codeblocks of the information with these numbers.
+fn codeblocks_checksum<F: Fn([u8; 7]) -> [u8; 8]>(make: F, operations: u64, round: u64) -> u64
+    requires { F.IsAlwaysCallable make }
+{
     let mut checksum: u64 = round;
     for number in 0..operations {
-        let block = codeblock(information(number.wrapping_add(round)));
+        let block = make(information(number.wrapping_add(round)));
         checksum = folded(checksum, u64::from_be_bytes(block));
     }
     checksum
 }
 
-fn shift_register_checksum(operations: u64, round: u64) -> u64 {
-    let mut checksum: u64 = round;
-    for number in 0..operations {
-        let block = shift_register_codeblock(information(number.wrapping_add(round)));
-        checksum = folded(checksum, u64::from_be_bytes(block));
+/// Codeblocks, by the table.
+#[derive(Clone, Copy)]
+struct Table;
+
+impl Work for Table {
+    fn operations(&self) -> u64 {
+        8_000_000
     }
-    checksum
+
+    fn checksum(&self, operations: u64, round: u64) -> u64 {
+        codeblocks_checksum(codeblock, operations, round)
+    }
+}
+
+/// Codeblocks, by the shift register.
+#[derive(Clone, Copy)]
+struct ShiftRegister;
+
+impl Work for ShiftRegister {
+    fn operations(&self) -> u64 {
+        1_000_000
+    }
+
+    fn checksum(&self, operations: u64, round: u64) -> u64 {
+        codeblocks_checksum(shift_register_codeblock, operations, round)
+    }
+}
+
+/// Verdicts on codeblocks to which these wrong bits were added.
+#[derive(Clone, Copy)]
+struct Judging {
+    wrong: u64,
 }
 
 // Judges 1,000 codeblocks, made beforehand, again and again.
-fn judge_checksum(wrong: u64, operations: u64, round: u64) -> u64 {
-    let mut words = [0u64; 1_000];
-    let mut number = round;
-    for word in words.iter_mut() {
-        *word = u64::from_be_bytes(codeblock(information(number))) ^ wrong;
-        number = number.wrapping_add(1);
-    }
-    let mut checksum: u64 = round;
-    for _ in 0..operations / 1_000 {
-        for word in &words {
-            checksum = folded(checksum, judged_number(judge(Mode::Correcting, *word)));
+impl Work for Judging {
+    fn operations(&self) -> u64 {
+        match self.wrong {
+            0 | 2 => 6_000_000,
+            _ => 1_000_000,
         }
     }
-    checksum
+
+    fn checksum(&self, operations: u64, round: u64) -> u64 {
+        let words: [u64; 1_000] = array::from_fn(|k| {
+            let block = codeblock(information(round.wrapping_add(k as u64)));
+            u64::from_be_bytes(block) ^ self.wrong
+        });
+        let mut checksum: u64 = round;
+        for _ in 0..operations / 1_000 {
+            for word in &words {
+                checksum = folded(checksum, judged_number(judge(Mode::Correcting, *word)));
+            }
+        }
+        checksum
+    }
 }
 
 fn judged_number(verdict: Verdict) -> u64 {
@@ -206,77 +200,94 @@ fn judged_number(verdict: Verdict) -> u64 {
     }
 }
 
-fn write_checksum(sender: Sender, operations: u64, round: u64) -> u64 {
-    let mut frame = [0x55u8; FRAME_OCTETS];
-    let mut memory = [0u8; CLTU_OCTETS];
-    written_checksum(sender, &mut frame, &mut memory, operations, round)
+/// CLTUs of a frame of 1,024 octets.
+#[derive(Clone, Copy)]
+struct Writing {
+    sender: Sender,
 }
 
 // Writes the frame again and again, and changes an octet of it each time.
-fn written_checksum(
-    sender: Sender,
-    frame: &mut [u8],
-    memory: &mut [u8],
-    operations: u64,
-    round: u64,
-) -> u64 {
-    let mut checksum: u64 = round;
-    for number in 0..operations {
-        let place = (number & 1_023) as usize;
-        if let Some(octet) = frame.get_mut(place) {
-            *octet = (number & 255) as u8;
-        }
-        let octets = sender.write_cltu(frame, memory).unwrap_or(0);
-        let octet = memory.get(place).copied().unwrap_or(0);
-        checksum = folded(checksum, (octets as u64).wrapping_add(u64::from(octet)));
+impl Work for Writing {
+    fn operations(&self) -> u64 {
+        40_000
     }
-    checksum
+
+    fn checksum(&self, operations: u64, round: u64) -> u64 {
+        let mut frame = [0x55u8; FRAME_OCTETS];
+        let mut memory = [0u8; CLTU_OCTETS];
+        let mut checksum: u64 = round;
+        for number in 0..operations {
+            let place = (number & 1_023) as usize;
+            frame[place] = (number & 255) as u8;
+            let octets = self.sender.write_cltu(&frame, &mut memory).unwrap_or(0);
+            checksum = folded(
+                checksum,
+                (octets as u64).wrapping_add(u64::from(memory[place])),
+            );
+        }
+        checksum
+    }
 }
 
-fn small_ring_checksum(operations: u64, round: u64) -> u64 {
-    let mut cells = [Cell::EMPTY; FEW_CELLS];
-    ring_checksum(&mut cells, operations, round)
-}
-
-fn large_ring_checksum(operations: u64, round: u64) -> u64 {
-    let mut cells = [Cell::EMPTY; MANY_CELLS];
-    ring_checksum(&mut cells, operations, round)
+/// Calls of a ring of so many cells.
+#[derive(Clone, Copy)]
+struct RingCalls {
+    cells: usize,
 }
 
 // A candidate of two codeblocks comes and goes: eight calls each time.
-fn ring_checksum(cells: &mut [Cell], operations: u64, round: u64) -> u64 {
-    let mut ring = Ring::new(cells);
-    let mut checksum: u64 = round;
-    for number in 0..operations / 8 {
-        let _ = ring.open();
-        let _ = ring.add(information(number));
-        let _ = ring.add(information(round));
-        let _ = ring.finish();
-        let octet = ring.oldest_octet(3).unwrap_or(0);
-        let octets = ring.oldest_length().unwrap_or(0);
-        let _ = ring.release();
-        let free = ring.free_space() as u64;
-        checksum = folded(
-            checksum,
-            u64::from(octet)
-                .wrapping_add(octets as u64)
-                .wrapping_add(free),
-        );
+impl Work for RingCalls {
+    fn operations(&self) -> u64 {
+        8_000_000
     }
-    checksum
+
+    fn checksum(&self, operations: u64, round: u64) -> u64 {
+        let mut cells = [Cell::EMPTY; MANY_CELLS];
+        let mut ring = Ring::new(&mut cells[..self.cells.min(MANY_CELLS)]);
+        let mut checksum: u64 = round;
+        for number in 0..operations / 8 {
+            let _ = ring.open();
+            let _ = ring.add(information(number));
+            let _ = ring.add(information(round));
+            let _ = ring.finish();
+            let octet = ring.oldest_octet(3).unwrap_or(0);
+            let octets = ring.oldest_length().unwrap_or(0);
+            let _ = ring.release();
+            let free = ring.free_space() as u64;
+            checksum = folded(
+                checksum,
+                u64::from(octet)
+                    .wrapping_add(octets as u64)
+                    .wrapping_add(free),
+            );
+        }
+        checksum
+    }
 }
 
-fn copy_checksum(codeblocks: usize, operations: u64, round: u64) -> u64 {
-    let mut cells = [Cell::EMPTY; 147];
-    let mut ring = Ring::new(&mut cells);
-    let _ = ring.open();
-    for _ in 0..codeblocks {
-        let _ = ring.add(information(round));
+/// Octets copied of a candidate of so many codeblocks.
+#[derive(Clone, Copy)]
+struct Copying {
+    codeblocks: usize,
+}
+
+impl Work for Copying {
+    fn operations(&self) -> u64 {
+        40_000_000
     }
-    let _ = ring.finish();
-    let mut memory = [0u8; 1_029];
-    let octets = (codeblocks as u64).saturating_mul(7).max(1);
-    copied_checksum(&ring, &mut memory, operations / octets, round)
+
+    fn checksum(&self, operations: u64, round: u64) -> u64 {
+        let mut cells = [Cell::EMPTY; 147];
+        let mut ring = Ring::new(&mut cells);
+        let _ = ring.open();
+        for _ in 0..self.codeblocks {
+            let _ = ring.add(information(round));
+        }
+        let _ = ring.finish();
+        let mut memory = [0u8; 1_029];
+        let octets = (self.codeblocks as u64).saturating_mul(7).max(1);
+        copied_checksum(&ring, &mut memory, operations / octets, round)
+    }
 }
 
 fn copied_checksum<H: Hold>(hold: &H, memory: &mut [u8], copies: u64, round: u64) -> u64 {
@@ -302,7 +313,6 @@ fn pass_bit(cltu: &[u8], place: usize) -> bool {
 
 /// The bits of the pass.
 fn pass_bits(round: u64) -> [bool; SYMBOLS] {
-    let mut bits = [false; SYMBOLS];
     let mut cltu = [0u8; 306];
     if let Ok(limit) = CodeblockLimit::new(37) {
         let sender = Sender {
@@ -311,21 +321,12 @@ fn pass_bits(round: u64) -> [bool; SYMBOLS] {
         };
         let _ = sender.write_cltu(&[(round & 255) as u8; 259], &mut cltu);
     }
-    for (place, bit) in bits.iter_mut().enumerate() {
-        *bit = pass_bit(&cltu, place);
-    }
-    bits
+    array::from_fn(|place| pass_bit(&cltu, place))
 }
 
 /// The same as soft levels.
 fn pass_levels(round: u64) -> [i8; SYMBOLS] {
-    let mut levels = [100i8; SYMBOLS];
-    for (level, bit) in levels.iter_mut().zip(pass_bits(round).iter()) {
-        if *bit {
-            *level = -100;
-        }
-    }
-    levels
+    pass_bits(round).map(|bit| if bit { -100 } else { 100 })
 }
 
 /// Receives the pass again and again, so many symbols a call.
@@ -344,15 +345,42 @@ fn received_checksum<S: Symbol>(pass: &[S], a_call: usize, operations: u64, roun
         for symbols in pass.chunks(a_call.max(1)) {
             let _ = receiver.symbols(symbols, &mut queue);
         }
-        let codeblocks = match queue.take() {
-            Ok(report) => report.codeblocks,
-            Err(_) => 0,
-        };
+        let codeblocks = queue.take().map_or(0, |report| report.codeblocks);
         let octet = receiver.oldest_octet(3).unwrap_or(0);
         let _ = receiver.release();
         checksum = folded(checksum, (codeblocks as u64).wrapping_add(u64::from(octet)));
     }
     checksum
+}
+
+/// Symbols received as bits, so many a call.
+#[derive(Clone, Copy)]
+struct Bits {
+    a_call: usize,
+}
+
+impl Work for Bits {
+    fn operations(&self) -> u64 {
+        40_960_000
+    }
+
+    fn checksum(&self, operations: u64, round: u64) -> u64 {
+        received_checksum(&pass_bits(round), self.a_call, operations, round)
+    }
+}
+
+/// Symbols received as soft levels.
+#[derive(Clone, Copy)]
+struct Levels;
+
+impl Work for Levels {
+    fn operations(&self) -> u64 {
+        40_960_000
+    }
+
+    fn checksum(&self, operations: u64, round: u64) -> u64 {
+        received_checksum(&pass_levels(round), SYMBOLS, operations, round)
+    }
 }
 
 /// The rival: bits in arrays, a window that is moved bit by bit, and the code by a shift register.
@@ -407,28 +435,24 @@ impl PlainReceiver {
     // What a register of seven bits has left of the codeblock: 0 where it is undamaged.
     fn register(&self) -> u8 {
         let mut register: u8 = 0;
-        for (place, bit) in self.block.iter().enumerate() {
-            if place < 63 {
-                let turned = *bit != (place >= 56);
-                let feedback = register >= 0x40;
-                register = ((register & 0x3F) << 1) | u8::from(turned);
-                if feedback {
-                    register ^= 0x45;
-                }
+        for (place, bit) in self.block.iter().enumerate().take(63) {
+            let turned = *bit != (place >= 56);
+            let feedback = register >= 0x40;
+            register = ((register & 0x3F) << 1) | u8::from(turned);
+            if feedback {
+                register ^= 0x45;
             }
         }
         register & 0x7F
     }
 
     fn keep(&mut self) {
-        for octet in 0..7usize {
-            let mut value: u8 = 0;
-            for k in 0..8usize {
-                value = ((value & 0x7F) << 1) | u8::from(self.block[8 * octet + k]);
-            }
-            let place = (self.codeblocks & 0xFF) as usize * 7 + octet;
-            if let Some(cell) = self.candidate.get_mut(place) {
-                *cell = value;
+        let begins = (self.codeblocks & 0xFF) as usize * 7;
+        if let Some(cells) = self.candidate.get_mut(begins..begins + 7) {
+            for (cell, bits) in cells.iter_mut().zip(self.block.chunks(8)) {
+                *cell = bits
+                    .iter()
+                    .fold(0, |octet, bit| (octet << 1) | u8::from(*bit));
             }
         }
         self.codeblocks = self.codeblocks.saturating_add(1);
@@ -458,7 +482,20 @@ impl PlainReceiver {
     }
 }
 
-/// The same pass by the rival, which detects wrong bits and corrects none.
+/// Symbols received by the rival, which detects wrong bits and corrects none.
+#[derive(Clone, Copy)]
+struct PlainBits;
+
+impl Work for PlainBits {
+    fn operations(&self) -> u64 {
+        4_096_000
+    }
+
+    fn checksum(&self, operations: u64, round: u64) -> u64 {
+        plain_checksum(&pass_bits(round), operations, round)
+    }
+}
+
 fn plain_checksum(pass: &[bool], operations: u64, round: u64) -> u64 {
     let mut plain = PlainReceiver::new();
     let mut checksum: u64 = round;
@@ -522,7 +559,12 @@ impl Measured {
 }
 
 // The time of one round, whose answers are folded into the sum.
-fn round_nanos(rt: &HostRuntime, work: &Work, round: u64, sum: &mut u64) -> anyhow::Result<u64> {
+fn round_nanos(
+    rt: &impl Clock,
+    work: &impl Work,
+    round: u64,
+    sum: &mut u64,
+) -> anyhow::Result<u64> {
     let start = Instant::now(rt)?;
     *sum = folded(*sum, work.checksum(work.operations(), round));
     let spent = start.elapsed(rt)?;
@@ -531,10 +573,10 @@ fn round_nanos(rt: &HostRuntime, work: &Work, round: u64, sum: &mut u64) -> anyh
 
 // Measures both in turn, and prints the line that compares them.
 fn compare(
-    rt: &HostRuntime,
+    rt: &(impl Print + Clock),
     name: &str,
-    subject: &Work,
-    rival: &Work,
+    subject: &impl Work,
+    rival: &impl Work,
 ) -> anyhow::Result<(Measured, Measured)> {
     let mut here = Measured {
         nanos: u64::MAX,
@@ -546,12 +588,10 @@ fn compare(
     };
     let mut checksum: u64 = 0;
     for round in 0..ROUNDS {
-        here.nanos = here
-            .nanos
-            .min(round_nanos(rt, subject, round, &mut checksum)?);
-        there.nanos = there
-            .nanos
-            .min(round_nanos(rt, rival, round, &mut checksum)?);
+        let nanos = round_nanos(rt, subject, round, &mut checksum)?;
+        here.nanos = here.nanos.min(nanos);
+        let nanos = round_nanos(rt, rival, round, &mut checksum)?;
+        there.nanos = there.nanos.min(nanos);
     }
     let time = here.nanos_an_operation();
     let rival_time = there.nanos_an_operation();
@@ -561,7 +601,7 @@ fn compare(
 }
 
 // Whether two works give the same answers.
-fn agreement(subject: &Work, rival: &Work) -> &'static str {
+fn agreement(subject: &impl Work, rival: &impl Work) -> &'static str {
     if subject.checksum(100_000, 0) == rival.checksum(100_000, 0) {
         "agree"
     } else {
@@ -574,9 +614,9 @@ fn octets_a_microsecond(measured: Measured) -> Hundredths {
     Hundredths::quotient(octets.saturating_mul(1_000), measured.nanos)
 }
 
-fn time_sequence(rt: &HostRuntime) -> anyhow::Result<()> {
-    let near = Work::Sequence(0);
-    let far = Work::Sequence(1_000_000);
+fn time_sequence(rt: &(impl Print + Clock)) -> anyhow::Result<()> {
+    let near = Sequence { first: 0 };
+    let far = Sequence { first: 1_000_000 };
     let _ = compare(
         rt,
         "sequence octet, places from 1,000,000 against from 0",
@@ -586,9 +626,9 @@ fn time_sequence(rt: &HostRuntime) -> anyhow::Result<()> {
     Ok(())
 }
 
-fn time_codeblock(rt: &HostRuntime) -> anyhow::Result<()> {
-    let table = Work::Table;
-    let register = Work::ShiftRegister;
+fn time_codeblock(rt: &(impl Print + Clock)) -> anyhow::Result<()> {
+    let table = Table;
+    let register = ShiftRegister;
     let _ = compare(
         rt,
         "codeblock, shift register against table",
@@ -600,10 +640,10 @@ fn time_codeblock(rt: &HostRuntime) -> anyhow::Result<()> {
     Ok(())
 }
 
-fn time_verdict(rt: &HostRuntime) -> anyhow::Result<()> {
-    let undamaged = Work::Judge(0);
-    let lowest = Work::Judge(2);
-    let highest = Work::Judge(1 << 63);
+fn time_verdict(rt: &(impl Print + Clock)) -> anyhow::Result<()> {
+    let undamaged = Judging { wrong: 0 };
+    let lowest = Judging { wrong: 2 };
+    let highest = Judging { wrong: 1 << 63 };
     let _ = compare(
         rt,
         "verdict, wrong bit at degree 0 against undamaged",
@@ -624,18 +664,22 @@ fn time_verdict(rt: &HostRuntime) -> anyhow::Result<()> {
     Ok(())
 }
 
-fn time_writing(rt: &HostRuntime) -> anyhow::Result<()> {
-    let Ok(limit) = CodeblockLimit::new(147) else {
-        return Err(anyhow!("benchmarks: no such limit"));
+fn time_writing(rt: &(impl Print + Clock)) -> anyhow::Result<()> {
+    let limit = CodeblockLimit::new(147)
+        .ok()
+        .context("benchmarks: no such limit")?;
+    let on = Writing {
+        sender: Sender {
+            limit,
+            randomizer: Randomizer::On,
+        },
     };
-    let on = Work::Write(Sender {
-        limit,
-        randomizer: Randomizer::On,
-    });
-    let off = Work::Write(Sender {
-        limit,
-        randomizer: Randomizer::Off,
-    });
+    let off = Writing {
+        sender: Sender {
+            limit,
+            randomizer: Randomizer::Off,
+        },
+    };
     let (with, without) = compare(
         rt,
         "frame of 1,024 octets, randomizer on against off",
@@ -648,12 +692,12 @@ fn time_writing(rt: &HostRuntime) -> anyhow::Result<()> {
     Ok(())
 }
 
-fn time_ring(rt: &HostRuntime) -> anyhow::Result<()> {
-    let large = Work::LargeRing;
-    let small = Work::SmallRing;
+fn time_ring(rt: &(impl Print + Clock)) -> anyhow::Result<()> {
+    let large = RingCalls { cells: MANY_CELLS };
+    let small = RingCalls { cells: FEW_CELLS };
     let _ = compare(rt, "call of a ring, 8,192 cells against 8", &large, &small)?;
-    let long = Work::Copy(147);
-    let short = Work::Copy(7);
+    let long = Copying { codeblocks: 147 };
+    let short = Copying { codeblocks: 7 };
     let _ = compare(
         rt,
         "octet of a copy, candidate of 147 codeblocks against 7",
@@ -663,23 +707,23 @@ fn time_ring(rt: &HostRuntime) -> anyhow::Result<()> {
     Ok(())
 }
 
-fn time_symbols(rt: &HostRuntime) -> anyhow::Result<()> {
-    let bits = Work::Bits(SYMBOLS);
-    let plain = Work::PlainBits;
+fn time_symbols(rt: &(impl Print + Clock)) -> anyhow::Result<()> {
+    let bits = Bits { a_call: SYMBOLS };
+    let plain = PlainBits;
     let _ = compare(
         rt,
         "symbol received, plain rival against receiver",
         &plain,
         &bits,
     )?;
-    let single = Work::Bits(1);
+    let single = Bits { a_call: 1 };
     let _ = compare(
         rt,
         "symbol received, one a call against 4,096 a call",
         &single,
         &bits,
     )?;
-    let levels = Work::Levels;
+    let levels = Levels;
     let _ = compare(
         rt,
         "symbol received, soft levels against bits",
@@ -695,7 +739,7 @@ fn time_symbols(rt: &HostRuntime) -> anyhow::Result<()> {
     Ok(())
 }
 
-fn time(rt: &HostRuntime) -> anyhow::Result<()> {
+fn time(rt: &(impl Print + Clock)) -> anyhow::Result<()> {
     time_sequence(rt)?;
     time_codeblock(rt)?;
     time_verdict(rt)?;
@@ -704,45 +748,18 @@ fn time(rt: &HostRuntime) -> anyhow::Result<()> {
     time_symbols(rt)
 }
 
-/// What the arguments ask for.
-#[derive(Drop)]
-enum Task {
-    Help,
-    Time,
-}
+/// The program as its user calls it.
+const PROGRAM: Program = Program {
+    name: "benchmarks",
+    arguments: "time",
+    help: HELP,
+};
 
-fn asked_task(rt: &HostRuntime) -> anyhow::Result<Task> {
-    let mut args = env::args(rt)?;
-    let _ = args.next();
-    let task = match args.next() {
-        None => Task::Help,
-        Some(word) => match word.as_str() {
-            "time" => Task::Time,
-            _ => return Err(anyhow!("benchmarks: the one argument is time")),
-        },
-    };
-    match args.next() {
-        None => Ok(task),
-        Some(_) => Err(anyhow!("benchmarks: at most one argument, time")),
-    }
-}
-
-fn run(rt: &HostRuntime) -> anyhow::Result<()> {
-    match asked_task(rt)? {
-        Task::Help => {
-            rt.println(HELP)?;
-            Ok(())
-        }
-        Task::Time => time(rt),
-    }
+/// What the argument asks for.
+fn asked_task(argument: &str) -> Option<Task<()>> {
+    (argument == "time").then_some(Task::Work(()))
 }
 
 fn main(rt: HostRuntime) -> anyhow::Result<ExitCode> {
-    match run(&rt) {
-        Ok(()) => Ok(ExitCode::SUCCESS),
-        Err(e) => {
-            eprintln!(rt; "{e}")?;
-            Ok(ExitCode::FAILURE)
-        }
-    }
+    PROGRAM.run(&rt, Task::Help, asked_task, |()| time(&rt))
 }

@@ -1,11 +1,10 @@
 //! `encode`: frames in, CLTUs out, one line each.
 #![tactic(auto)]
 
-use anyhow::anyhow;
 use cltu::{CodeblockLimit, Sender};
+use command_line::{Program, Task};
 use frame_lines::{Answer, answer_line};
 use randomizer::Randomizer;
-use std::env;
 use std::io::{BufRead, BufReader};
 use std::process::ExitCode;
 
@@ -29,27 +28,19 @@ the last may lack its end. After the last line comes
 
 random turns the randomizer on. A CLTU has at most 147 codeblocks. --help prints this text.";
 
-/// What the arguments ask for.
-#[derive(Drop)]
-enum Task {
-    Help,
-    Encode(Randomizer),
-}
+/// The program as its user calls it.
+const PROGRAM: Program = Program {
+    name: "encode",
+    arguments: "random or --help",
+    help: HELP,
+};
 
-fn asked_task(rt: &HostRuntime) -> anyhow::Result<Task> {
-    let mut args = env::args(rt)?;
-    let _ = args.next();
-    let task = match args.next() {
-        None => Task::Encode(Randomizer::Off),
-        Some(word) => match word.as_str() {
-            "random" => Task::Encode(Randomizer::On),
-            "--help" => Task::Help,
-            _ => return Err(anyhow!("encode: the one argument is random or --help")),
-        },
-    };
-    match args.next() {
-        None => Ok(task),
-        Some(_) => Err(anyhow!("encode: at most one argument, random or --help")),
+/// What the argument asks for.
+fn asked_task(argument: &str) -> Option<Task<Randomizer>> {
+    match argument {
+        "random" => Some(Task::Work(Randomizer::On)),
+        "--help" => Some(Task::Help),
+        _ => None,
     }
 }
 
@@ -88,22 +79,8 @@ fn line_text(line: &[u8]) -> &[u8] {
     }
 }
 
-fn run(rt: &HostRuntime) -> anyhow::Result<()> {
-    match asked_task(rt)? {
-        Task::Help => {
-            rt.println(HELP)?;
-            Ok(())
-        }
-        Task::Encode(randomizer) => encode(rt, randomizer),
-    }
-}
-
 fn main(rt: HostRuntime) -> anyhow::Result<ExitCode> {
-    match run(&rt) {
-        Ok(()) => Ok(ExitCode::SUCCESS),
-        Err(e) => {
-            eprintln!(rt; "{e}")?;
-            Ok(ExitCode::FAILURE)
-        }
-    }
+    PROGRAM.run(&rt, Task::Work(Randomizer::Off), asked_task, |randomizer| {
+        encode(&rt, randomizer)
+    })
 }

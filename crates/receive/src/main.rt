@@ -1,9 +1,8 @@
 //! `receive`: a pass record in, reports and candidates out, one line each.
 #![tactic(auto)]
 
-use anyhow::anyhow;
+use command_line::{Program, Task};
 use pass_lines::answer_record;
-use std::env;
 use std::io::Read;
 use std::process::ExitCode;
 
@@ -38,27 +37,16 @@ Where the input is no pass record, the only line is
 // One octet more than a pass record may have: input that fills it is too long.
 const MOST: u64 = 65536;
 
-/// What the arguments ask for.
-#[derive(Drop)]
-enum Task {
-    Help,
-    Receive,
-}
+/// The program as its user calls it.
+const PROGRAM: Program = Program {
+    name: "receive",
+    arguments: "--help",
+    help: HELP,
+};
 
-fn asked_task(rt: &HostRuntime) -> anyhow::Result<Task> {
-    let mut args = env::args(rt)?;
-    let _ = args.next();
-    let task = match args.next() {
-        None => Task::Receive,
-        Some(word) => match word.as_str() {
-            "--help" => Task::Help,
-            _ => return Err(anyhow!("receive: the one argument is --help")),
-        },
-    };
-    match args.next() {
-        None => Ok(task),
-        Some(_) => Err(anyhow!("receive: at most one argument, --help")),
-    }
+/// What the argument asks for.
+fn asked_task(argument: &str) -> Option<Task<()>> {
+    (argument == "--help").then_some(Task::Help)
 }
 
 fn receive(rt: &HostRuntime) -> anyhow::Result<()> {
@@ -71,22 +59,6 @@ fn receive(rt: &HostRuntime) -> anyhow::Result<()> {
     Ok(())
 }
 
-fn run(rt: &HostRuntime) -> anyhow::Result<()> {
-    match asked_task(rt)? {
-        Task::Help => {
-            rt.println(HELP)?;
-            Ok(())
-        }
-        Task::Receive => receive(rt),
-    }
-}
-
 fn main(rt: HostRuntime) -> anyhow::Result<ExitCode> {
-    match run(&rt) {
-        Ok(()) => Ok(ExitCode::SUCCESS),
-        Err(e) => {
-            eprintln!(rt; "{e}")?;
-            Ok(ExitCode::FAILURE)
-        }
-    }
+    PROGRAM.run(&rt, Task::Work(()), asked_task, |()| receive(&rt))
 }

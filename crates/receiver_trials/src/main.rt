@@ -1,7 +1,7 @@
 //! Runs receivers beside a model of reception in plain lists, and compares every answer.
 #![tactic(auto)]
 
-use anyhow::anyhow;
+use anyhow::Context;
 use bch::Mode;
 use cltu::{CodeblockLimit, Sender};
 use decoding::Settings;
@@ -14,6 +14,7 @@ use reception::{Reason, Report};
 use refusals::Refusal;
 use ring::{Cell, Ring};
 use std::alloc::{AllocError, Global};
+use std::{fmt, iter};
 
 /// A sequence of numbers in which no pattern is easily seen.
 #[derive(Drop)]
@@ -52,12 +53,13 @@ impl Numbers {
         self.chance(32768)
     }
 
+    /// The first or the second.
+    fn either<T: Drop>(&mut self, first: T, second: T) -> T {
+        if self.bit() { first } else { second }
+    }
+
     fn octet(&mut self) -> u8 {
-        let mut octet: u8 = 0;
-        for _ in 0..8 {
-            octet = (octet << 1) | u8::from(self.bit());
-        }
-        octet
+        (0..8).fold(0, |octet, _| (octet << 1) | u8::from(self.bit()))
     }
 
     /// A soft level that counts as this bit.
@@ -73,71 +75,12 @@ const START: [bool; 16] = [
     false, false,
 ];
 
-/// Alternating bits.
+/// What each bit of an octet counts, in the order in which bits are sent.
+const WEIGHTS: [u8; 8] = [0x80, 0x40, 0x20, 0x10, 0x08, 0x04, 0x02, 0x01];
+
+/// So many alternating bits, of which this is the first.
 fn put_idle(line: &mut Vec<bool>, bits: usize, first: bool) -> Result<(), AllocError> {
-    let mut bit = first;
-    for _ in 0..bits {
-        line.push(bit)?;
-        bit = !bit;
-    }
-    Ok(())
-}
-
-/// A frame of so many octets.
-fn frame(heap: Global, octets: usize, numbers: &mut Numbers) -> Result<Vec<u8>, AllocError> {
-    let mut frame = Vec::new(heap);
-    for _ in 0..octets {
-        frame.push(numbers.octet())?;
-    }
-    Ok(frame)
-}
-
-/// The CLTU of a frame, which may have more codeblocks than a receiver's limit.
-fn put_cltu(heap: Global, line: &mut Vec<bool>, setup: Setup, frame: &[u8]) -> anyhow::Result<()> {
-    let Ok(limit) = CodeblockLimit::new(147) else {
-        return Err(anyhow!("the sender's limit was refused"));
-    };
-    let sender = Sender {
-        limit,
-        randomizer: setup.randomizer,
-    };
-    let mut memory = vec![in heap; 0u8; 1186]?;
-    let Ok(octets) = sender.write_cltu(frame, memory.as_mut_slice()) else {
-        return Err(anyhow!("a frame was refused"));
-    };
-    for octet in memory.iter().take(octets) {
-        for weight in [0x80, 0x40, 0x20, 0x10, 0x08, 0x04, 0x02, 0x01] {
-            line.push(*octet & weight != 0)?;
-        }
-    }
-    Ok(())
-}
-
-/// A line with wrong symbols, so many of 65,536.
-fn damaged(
-    heap: Global,
-    line: &[bool],
-    times: u64,
-    numbers: &mut Numbers,
-) -> Result<Vec<bool>, AllocError> {
-    let mut damaged = Vec::new(heap);
-    for bit in line {
-        damaged.push(*bit != numbers.chance(times))?;
-    }
-    Ok(damaged)
-}
-
-/// A CLTU with idle around it and wrong bits anywhere. It may have a codeblock more than the limit.
-fn command(heap: Global, setup: Setup, numbers: &mut Numbers) -> anyhow::Result<Vec<bool>> {
-    let most = (setup.settings.limit.count() * 7 + 7).min(1024);
-    let octets = numbers.below(most).saturating_add(1);
-    let frame = frame(heap, octets, numbers)?;
-    let mut line = Vec::new(heap);
-    put_idle(&mut line, numbers.below(200), numbers.bit())?;
-    put_cltu(heap, &mut line, setup, frame.as_slice())?;
-    put_idle(&mut line, numbers.below(400), numbers.bit())?;
-    let line = damaged(heap, line.as_slice(), setup.wrong, numbers)?;
-    Ok(line)
+    line.extend((0..bits).map(|k| first == (k % 2 == 0)))
 }
 
 /// As what symbols are brought to the receiver.
@@ -208,19 +151,18 @@ fn times_x(remainder: u8) -> u8 {
 
 // The remainder of 63 symbols, of which the last seven are complemented.
 fn remainder(symbols: &[bool]) -> u8 {
-    let mut remainder = 0;
-    for (i, symbol) in symbols.iter().enumerate().take(63) {
-        remainder = times_x(remainder) ^ u8::from(*symbol != (i >= 56));
-    }
-    remainder
+    let coded = symbols.iter().enumerate().take(63);
+    coded.fold(0, |remainder, (i, symbol)| {
+        times_x(remainder) ^ u8::from(*symbol != (i >= 56))
+    })
 }
 
 // The symbol that has to be turned to make a codeblock of 64 symbols with this remainder.
 fn turned_symbol(remainder: u8) -> Option<usize> {
     let mut power = 1;
-    for degree in 0..63 {
+    for symbol in (0..63).rev() {
         if power == remainder {
-            return Some(62 - degree);
+            return Some(symbol);
         }
         power = times_x(power);
     }
@@ -245,10 +187,8 @@ impl Model {
     }
 
     fn free_space(&self) -> usize {
-        let mut octets = self.opened.len();
-        for candidate in self.finished.iter() {
-            octets = octets.saturating_add(candidate.len());
-        }
+        let finished = self.finished.iter().map(Vec::len);
+        let octets = finished.fold(self.opened.len(), usize::saturating_add);
         self.setup.cells.saturating_sub(octets / 7)
     }
 
@@ -324,11 +264,13 @@ impl Model {
         if self.symbols.len() > 16 {
             let _ = self.symbols.remove(0);
         }
-        let mut wrong: usize = 16usize.saturating_sub(self.symbols.len()).saturating_mul(2);
-        for (symbol, sent) in self.symbols.iter().zip(START.iter()) {
-            wrong = wrong.saturating_add(usize::from(symbol != sent));
-        }
-        if wrong == 0 || (wrong == 1 && self.setup.settings.mode == Mode::Correcting) {
+        let pairs = self.symbols.iter().zip(START.iter());
+        let wrong = pairs.filter(|(symbol, sent)| symbol != sent).count();
+        let allowed = match self.setup.settings.mode {
+            Mode::Correcting => 1,
+            Mode::Detecting => 0,
+        };
+        if self.symbols.len() == 16 && wrong <= allowed {
             self.symbols.clear();
             self.state = ReceiverState::Decode;
         }
@@ -360,14 +302,18 @@ impl Model {
 
     // Adds the information of a codeblock in which a symbol may have to be turned.
     fn add(&mut self, turned: Option<usize>) -> Result<(), AllocError> {
-        let mut octet: u8 = 0;
-        for (i, symbol) in self.symbols.iter().enumerate().take(56) {
-            octet = (octet << 1) | u8::from(*symbol != (turned == Some(i)));
-            if i % 8 == 7 {
-                let place = self.opened.len();
-                let added = self.sequence.get(place).copied().unwrap_or(0);
-                self.opened.push(octet ^ added)?;
-            }
+        if let Some(place) = turned
+            && let Some(symbol) = self.symbols.get_mut(place)
+        {
+            *symbol = !*symbol;
+        }
+        for bits in self.symbols.chunks(8).take(7) {
+            let octet = bits
+                .iter()
+                .fold(0, |octet, bit| (octet << 1) | u8::from(*bit));
+            let place = self.opened.len();
+            let added = self.sequence.get(place).copied().unwrap_or(0);
+            self.opened.push(octet ^ added)?;
         }
         self.corrections = self
             .corrections
@@ -388,8 +334,7 @@ impl Model {
         } else {
             self.lost = self.lost.saturating_add(1);
         }
-        let mut candidate = Vec::new(self.heap);
-        std::mem::swap(&mut candidate, &mut self.opened);
+        let candidate = std::mem::replace(&mut self.opened, Vec::new(self.heap));
         if let Reason::Closed = reason {
             self.finished.push(candidate)?;
         }
@@ -399,20 +344,21 @@ impl Model {
     }
 }
 
+/// The next eight bits of the randomizer's sequence behind these, of which the earliest is highest.
+fn next_octet(octet: &u8) -> Option<u8> {
+    let next = (0..8).fold(*octet, |last, _| {
+        // The bits n, n + 1, n + 2, n + 3, n + 4 and n + 6 of bits n to n + 7.
+        let sum = (last & 0b11111010).count_ones() % 2;
+        (last << 1) | u8::from(sum == 1)
+    });
+    Some(next)
+}
+
 /// The randomizer's sequence by its rule, so many octets of it.
 fn sequence(heap: Global, octets: usize) -> Result<Vec<u8>, AllocError> {
-    let mut sequence = Vec::new(heap);
-    // The last eight bits, the earliest of them highest.
-    let mut last: u8 = 0xff;
-    for _ in 0..octets {
-        sequence.push(last)?;
-        for _ in 0..8 {
-            // The bits n, n + 1, n + 2, n + 3, n + 4 and n + 6 of bits n to n + 7.
-            let sum = (last & 0b11111010).count_ones() % 2;
-            last = (last << 1) | u8::from(sum == 1);
-        }
-    }
-    Ok(sequence)
+    iter::successors(Some(0xff), next_octet)
+        .take(octets)
+        .collect(heap)
 }
 
 /// What stands in slots in which no report waits.
@@ -457,7 +403,17 @@ impl Tally {
     }
 }
 
-/// A receiver, its queue and the model of both.
+impl fmt::Display for Tally {
+    fn fmt<W: fmt::Write>(&self, f: &mut fmt::Formatter<W>) -> fmt::Result {
+        write!(
+            f,
+            "{} runs, {} symbols, {} reports, {} comparisons, {} of them around refused calls",
+            self.runs, self.symbols, self.reports, self.comparisons, self.refused
+        )
+    }
+}
+
+/// A receiver, its queue and the model of both, and what a trial draws and counts.
 #[derive(Drop)]
 struct Bench<'a, H: Hold> {
     heap: Global,
@@ -467,13 +423,8 @@ struct Bench<'a, H: Hold> {
     model: Model,
     // Chooses soft levels, so that the other choices of a run do not depend on how symbols are brought.
     noise: Numbers,
-}
-
-/// The oldest finished candidate, empty where none waits.
-fn oldest<H: Hold>(heap: Global, receiver: &Receiver<H>) -> Result<Vec<u8>, AllocError> {
-    let mut oldest = vec![in heap; 0u8; receiver.oldest_length().unwrap_or(0)]?;
-    let _ = receiver.copy_oldest(oldest.as_mut_slice());
-    Ok(oldest)
+    numbers: &'a mut Numbers,
+    tally: &'a mut Tally,
 }
 
 /// The reports in a queue, which is left as it was.
@@ -488,24 +439,6 @@ fn waiting(heap: Global, queue: &mut Queue<'_, Report>) -> Result<Vec<Report>, A
     Ok(reports)
 }
 
-/// All that can be asked of a receiver and its queue.
-fn all_answers<H: Hold>(
-    heap: Global,
-    receiver: &Receiver<H>,
-    queue: &mut Queue<'_, Report>,
-) -> Result<Answers, AllocError> {
-    Ok(Answers {
-        state: receiver.state(),
-        lost: receiver.lost(),
-        free_space: receiver.free_space(),
-        open_codeblocks: receiver.open_codeblocks(),
-        finished_count: receiver.finished_count(),
-        length: receiver.oldest_length(),
-        oldest: oldest(heap, receiver)?,
-        reports: waiting(heap, queue)?,
-    })
-}
-
 impl<'a, H: Hold + Drop> Bench<'a, H> {
     /// A new receiver over an empty hold to which nothing, or this sequence, is added.
     fn new(
@@ -514,6 +447,8 @@ impl<'a, H: Hold + Drop> Bench<'a, H> {
         hold: H,
         slots: &'a mut [Report],
         sequence: Vec<u8>,
+        numbers: &'a mut Numbers,
+        tally: &'a mut Tally,
     ) -> Bench<'a, H> {
         Bench {
             heap,
@@ -522,29 +457,96 @@ impl<'a, H: Hold + Drop> Bench<'a, H> {
             queue: Queue::new(slots),
             model: Model::new(heap, setup, sequence),
             noise: Numbers::new(2),
+            numbers,
+            tally,
         }
     }
 
-    // Counts a call that was or was not answered alike, with whether all questions are.
-    fn compare(&mut self, alike: bool, tally: &mut Tally) -> Result<(), AllocError> {
-        let answers = all_answers(self.heap, &self.receiver, &mut self.queue)?;
-        tally.count(alike && answers == self.model.answers()?);
+    /// A frame of so many octets.
+    fn frame(&mut self, octets: usize) -> Result<Vec<u8>, AllocError> {
+        (0..octets).map(|_| self.numbers.octet()).collect(self.heap)
+    }
+
+    /// The CLTU of a frame, which may have more codeblocks than the receiver's limit.
+    fn put_cltu(&self, line: &mut Vec<bool>, frame: &[u8]) -> anyhow::Result<()> {
+        let limit = CodeblockLimit::new(147)
+            .ok()
+            .context("the sender's limit was refused")?;
+        let randomizer = self.setup.randomizer;
+        let sender = Sender { limit, randomizer };
+        let mut memory = vec![in self.heap; 0u8; 1186]?;
+        let octets = sender
+            .write_cltu(frame, memory.as_mut_slice())
+            .ok()
+            .context("a frame was refused")?;
+        for octet in memory.iter().take(octets) {
+            line.extend(WEIGHTS.iter().map(|weight| *octet & *weight != 0))?;
+        }
         Ok(())
     }
 
-    fn carrier_up(&mut self, tally: &mut Tally) -> Result<(), AllocError> {
-        let alike = self.receiver.carrier_up() == self.model.carrier_up();
-        self.compare(alike, tally)
+    /// A line with wrong symbols, as many as the setup wants.
+    fn damaged(&mut self, line: &[bool]) -> Result<Vec<bool>, AllocError> {
+        let wrong = self.setup.wrong;
+        line.iter()
+            .map(|bit| *bit != self.numbers.chance(wrong))
+            .collect(self.heap)
     }
 
-    fn carrier_down(&mut self, tally: &mut Tally) -> Result<(), AllocError> {
+    /// A CLTU with idle around it and wrong bits anywhere. It may have a codeblock more than the limit.
+    fn command(&mut self) -> anyhow::Result<Vec<bool>> {
+        let most = (self.setup.settings.limit.count() * 7 + 7).min(1024);
+        let octets = self.numbers.below(most).saturating_add(1);
+        let frame = self.frame(octets)?;
+        let mut line = Vec::new(self.heap);
+        put_idle(&mut line, self.numbers.below(200), self.numbers.bit())?;
+        self.put_cltu(&mut line, frame.as_slice())?;
+        put_idle(&mut line, self.numbers.below(400), self.numbers.bit())?;
+        Ok(self.damaged(line.as_slice())?)
+    }
+
+    /// The oldest finished candidate, empty where none waits.
+    fn oldest(&self) -> Result<Vec<u8>, AllocError> {
+        let octets = self.receiver.oldest_length().unwrap_or(0);
+        let mut oldest = vec![in self.heap; 0u8; octets]?;
+        let _ = self.receiver.copy_oldest(oldest.as_mut_slice());
+        Ok(oldest)
+    }
+
+    /// All that can be asked of the receiver and its queue.
+    fn answers(&mut self) -> Result<Answers, AllocError> {
+        Ok(Answers {
+            state: self.receiver.state(),
+            lost: self.receiver.lost(),
+            free_space: self.receiver.free_space(),
+            open_codeblocks: self.receiver.open_codeblocks(),
+            finished_count: self.receiver.finished_count(),
+            length: self.receiver.oldest_length(),
+            oldest: self.oldest()?,
+            reports: waiting(self.heap, &mut self.queue)?,
+        })
+    }
+
+    // Counts a call that was or was not answered alike, with whether all questions are.
+    fn compare(&mut self, alike: bool) -> Result<(), AllocError> {
+        let answers = self.answers()?;
+        self.tally.count(alike && answers == self.model.answers()?);
+        Ok(())
+    }
+
+    fn carrier_up(&mut self) -> Result<(), AllocError> {
+        let alike = self.receiver.carrier_up() == self.model.carrier_up();
+        self.compare(alike)
+    }
+
+    fn carrier_down(&mut self) -> Result<(), AllocError> {
         let alike = self.receiver.carrier_down(&mut self.queue) == self.model.carrier_down()?;
-        self.compare(alike, tally)
+        self.compare(alike)
     }
 
     /// One of the calls by which a reader takes what was received, or no symbols.
-    fn reading(&mut self, numbers: &mut Numbers, tally: &mut Tally) -> Result<(), AllocError> {
-        let alike = match numbers.below(3) {
+    fn reading(&mut self) -> Result<(), AllocError> {
+        let alike = match self.numbers.below(3) {
             0 => self.receiver.release() == self.model.release(),
             1 if self.setup.taken => self.queue.take() == self.model.take_report(),
             _ => {
@@ -552,19 +554,19 @@ impl<'a, H: Hold + Drop> Bench<'a, H> {
                 self.receiver.symbols(&none, &mut self.queue) == self.model.symbols(&none)?
             }
         };
-        self.compare(alike, tally)
+        self.compare(alike)
     }
 
     /// Calls that are refused as things stand, and whether any answer is another after them.
-    fn refused(&mut self, tally: &mut Tally) -> Result<(), AllocError> {
-        let before = all_answers(self.heap, &self.receiver, &mut self.queue)?;
+    fn refused(&mut self) -> Result<(), AllocError> {
+        let before = self.answers()?;
         let mut refused = self.refuses_carrier();
         if before.finished_count == 0 {
             refused &= self.receiver.release() == Err(Refusal::NoCandidate);
         }
-        let after = all_answers(self.heap, &self.receiver, &mut self.queue)?;
-        tally.refused = tally.refused.saturating_add(1);
-        tally.count(refused && before == after);
+        let after = self.answers()?;
+        self.tally.refused = self.tally.refused.saturating_add(1);
+        self.tally.count(refused && before == after);
         Ok(())
     }
 
@@ -580,19 +582,14 @@ impl<'a, H: Hold + Drop> Bench<'a, H> {
     }
 
     /// Symbols in calls of any length, with other calls between.
-    fn line(
-        &mut self,
-        line: &[bool],
-        numbers: &mut Numbers,
-        tally: &mut Tally,
-    ) -> Result<(), AllocError> {
+    fn line(&mut self, line: &[bool]) -> Result<(), AllocError> {
         let mut rest = line;
         for _ in 0..line.len() {
-            let length = numbers.below(150).saturating_add(1).min(rest.len());
+            let length = self.numbers.below(150).saturating_add(1).min(rest.len());
             let (call, after) = rest.split_at(length);
-            self.symbols(call, tally)?;
-            if numbers.chance(20000) {
-                self.reading(numbers, tally)?;
+            self.symbols(call)?;
+            if self.numbers.chance(20000) {
+                self.reading()?;
             }
             rest = after;
             if rest.is_empty() {
@@ -603,16 +600,16 @@ impl<'a, H: Hold + Drop> Bench<'a, H> {
     }
 
     /// Releases all finished candidates.
-    fn release_all(&mut self, tally: &mut Tally) -> Result<(), AllocError> {
+    fn release_all(&mut self) -> Result<(), AllocError> {
         for _ in 0..self.receiver.finished_count() {
             let alike = self.receiver.release() == self.model.release();
-            self.compare(alike, tally)?;
+            self.compare(alike)?;
         }
         Ok(())
     }
 
     /// Takes a report, which has to tell of a full hold that took nothing.
-    fn take_full(&mut self, tally: &mut Tally) -> Result<(), AllocError> {
+    fn take_full(&mut self) -> Result<(), AllocError> {
         let full = Report {
             reason: Reason::Full,
             codeblocks: 0,
@@ -620,7 +617,7 @@ impl<'a, H: Hold + Drop> Bench<'a, H> {
         };
         let taken = self.queue.take();
         let alike = taken == Ok(full) && self.model.take_report() == taken;
-        self.compare(alike, tally)
+        self.compare(alike)
     }
 
     /// Whether the receiver searches and no codeblock is in an open candidate.
@@ -630,32 +627,31 @@ impl<'a, H: Hold + Drop> Bench<'a, H> {
 
     /// Whether the only finished candidate is this frame with its fill.
     fn has_only(&self, frame: &[u8]) -> Result<bool, AllocError> {
-        let oldest = oldest(self.heap, &self.receiver)?;
-        let mut whole = self.receiver.finished_count() == 1
-            && oldest.len() / 7 == frame.len().saturating_add(6) / 7
-            && oldest.as_slice().starts_with(frame);
-        for fill in oldest.iter().skip(frame.len()) {
-            whole &= *fill == 0x55;
-        }
-        Ok(whole)
+        let oldest = self.oldest()?;
+        let is_one = self.receiver.finished_count() == 1
+            && oldest.len() / 7 == frame.len().saturating_add(6) / 7;
+        Ok(match oldest.as_slice().strip_prefix(frame) {
+            Some(fill) => is_one && fill.iter().all(|octet| *octet == 0x55),
+            None => false,
+        })
     }
 
     /// What may lie between two CLTUs besides symbols: a carrier break, refused calls or nothing.
-    fn between(&mut self, numbers: &mut Numbers, tally: &mut Tally) -> Result<(), AllocError> {
-        match numbers.below(4) {
-            0 => self.refused(tally),
+    fn between(&mut self) -> Result<(), AllocError> {
+        match self.numbers.below(4) {
+            0 => self.refused(),
             1 => {
-                self.carrier_down(tally)?;
-                self.refused(tally)?;
-                self.reading(numbers, tally)?;
-                self.carrier_up(tally)
+                self.carrier_down()?;
+                self.refused()?;
+                self.reading()?;
+                self.carrier_up()
             }
             _ => Ok(()),
         }
     }
 
     /// Symbols in one call.
-    fn symbols(&mut self, bits: &[bool], tally: &mut Tally) -> Result<(), AllocError> {
+    fn symbols(&mut self, bits: &[bool]) -> Result<(), AllocError> {
         let soft = match self.setup.feed {
             Feed::Bits => false,
             Feed::SoftLevels => true,
@@ -667,37 +663,25 @@ impl<'a, H: Hold + Drop> Bench<'a, H> {
         } else {
             self.receiver.symbols(bits, &mut self.queue)
         };
-        tally.symbols = tally.symbols.saturating_add(bits.len());
-        tally.reports = tally.reports.saturating_add(made.unwrap_or(0));
+        self.tally.symbols = self.tally.symbols.saturating_add(bits.len());
+        self.tally.reports = self.tally.reports.saturating_add(made.unwrap_or(0));
         let alike = made == self.model.symbols(bits)?;
-        self.compare(alike, tally)
+        self.compare(alike)
     }
 }
 
 /// Soft levels that count as these bits.
 fn levels(heap: Global, bits: &[bool], numbers: &mut Numbers) -> Result<Vec<i8>, AllocError> {
-    let mut levels = Vec::new(heap);
-    for bit in bits {
-        levels.push(numbers.level(*bit))?;
-    }
-    Ok(levels)
+    bits.iter().map(|bit| numbers.level(*bit)).collect(heap)
 }
 
 /// A setup of any kind.
 fn any_setup(numbers: &mut Numbers) -> anyhow::Result<Setup> {
-    let mode = if numbers.bit() {
-        Mode::Correcting
-    } else {
-        Mode::Detecting
-    };
-    let randomizer = if numbers.bit() {
-        Randomizer::On
-    } else {
-        Randomizer::Off
-    };
-    let Ok(settings) = Settings::new(mode, numbers.pick(&[1, 2, 3, 5, 8, 37, 147])) else {
-        return Err(anyhow!("a limit was refused"));
-    };
+    let mode = numbers.either(Mode::Correcting, Mode::Detecting);
+    let randomizer = numbers.either(Randomizer::On, Randomizer::Off);
+    let settings = Settings::new(mode, numbers.pick(&[1, 2, 3, 5, 8, 37, 147]))
+        .ok()
+        .context("a limit was refused")?;
     Ok(Setup {
         settings,
         randomizer,
@@ -709,303 +693,274 @@ fn any_setup(numbers: &mut Numbers) -> anyhow::Result<Setup> {
     })
 }
 
-/// What is tried.
-#[derive(Clone, Copy)]
-enum Trial {
-    /// Several commands.
-    Pass,
-    /// Several commands with a queue of so many slots, from which nobody takes a report.
-    Queue(usize),
-    /// Several commands over a ring of no cells.
-    NoCells,
-    /// A codeblock for a ring of no cells.
-    Full,
-    /// Several commands, brought in this way.
-    Feeds(Feed),
-    /// More lost reports than are counted.
-    Lost,
-    /// Idle from this bit on, behind as much of a start sequence as makes it last longest.
-    Idle(bool),
-    /// Garbage, as much idle as recovery takes, and a command.
-    Recovery,
-}
-
-/// A setup for a trial.
-fn setup_for(trial: Trial, numbers: &mut Numbers) -> anyhow::Result<Setup> {
-    let mut setup = any_setup(numbers)?;
-    match trial {
-        Trial::Pass | Trial::Idle(_) => {}
-        Trial::Queue(slots) => {
-            setup.slots = slots;
-            setup.taken = false;
-        }
-        Trial::NoCells | Trial::Full => setup.cells = 0,
-        Trial::Feeds(feed) => setup.feed = feed,
-        Trial::Lost => setup.slots = 0,
-        Trial::Recovery => setup.cells = setup.settings.limit.count() + 2,
-    }
-    Ok(setup)
+/// What is done to a receiver, over any hold, and to its model.
+trait Trial {
+    fn run<H: Hold + Drop>(&self, bench: &mut Bench<'_, H>) -> anyhow::Result<()>;
 }
 
 /// Several commands with what lies between them.
-fn pass<H: Hold + Drop>(
-    heap: Global,
-    bench: &mut Bench<'_, H>,
-    setup: Setup,
-    numbers: &mut Numbers,
-    tally: &mut Tally,
-) -> anyhow::Result<()> {
-    bench.refused(tally)?;
-    bench.carrier_up(tally)?;
-    for _ in 0..6 {
-        let line = command(heap, setup, numbers)?;
-        bench.line(line.as_slice(), numbers, tally)?;
-        bench.between(numbers, tally)?;
+#[derive(Clone, Copy)]
+struct Pass;
+
+impl Trial for Pass {
+    fn run<H: Hold + Drop>(&self, bench: &mut Bench<'_, H>) -> anyhow::Result<()> {
+        bench.refused()?;
+        bench.carrier_up()?;
+        for _ in 0..6 {
+            let line = bench.command()?;
+            bench.line(line.as_slice())?;
+            bench.between()?;
+        }
+        Ok(())
     }
-    Ok(())
 }
 
 /// Up to 300 symbols of garbage, as much idle as recovery takes, and a command that is received whole.
-fn recovery<H: Hold + Drop>(
-    heap: Global,
-    bench: &mut Bench<'_, H>,
-    setup: Setup,
-    numbers: &mut Numbers,
-    tally: &mut Tally,
-) -> anyhow::Result<()> {
-    bench.carrier_up(tally)?;
-    let mut garbage = command(heap, setup, numbers)?;
-    garbage.truncate(numbers.below(301));
-    bench.line(garbage.as_slice(), numbers, tally)?;
-    let mut idle = Vec::new(heap);
-    let bits = match setup.settings.mode {
-        Mode::Correcting => setup.settings.limit.count() * 64 + 67,
-        Mode::Detecting => 127,
-    };
-    put_idle(&mut idle, bits, numbers.bit())?;
-    bench.line(idle.as_slice(), numbers, tally)?;
-    tally.count(bench.searches());
-    bench.release_all(tally)?;
-    let octets = numbers.below((setup.settings.limit.count() * 7).min(1024));
-    let frame = frame(heap, octets.saturating_add(1), numbers)?;
-    let mut line = Vec::new(heap);
-    put_cltu(heap, &mut line, setup, frame.as_slice())?;
-    bench.symbols(line.as_slice(), tally)?;
-    tally.count(bench.has_only(frame.as_slice())?);
-    Ok(())
+#[derive(Clone, Copy)]
+struct Recovery;
+
+impl Trial for Recovery {
+    fn run<H: Hold + Drop>(&self, bench: &mut Bench<'_, H>) -> anyhow::Result<()> {
+        let limit = bench.setup.settings.limit.count();
+        bench.carrier_up()?;
+        let mut garbage = bench.command()?;
+        garbage.truncate(bench.numbers.below(301));
+        bench.line(garbage.as_slice())?;
+        let mut idle = Vec::new(bench.heap);
+        let bits = match bench.setup.settings.mode {
+            Mode::Correcting => limit * 64 + 67,
+            Mode::Detecting => 127,
+        };
+        put_idle(&mut idle, bits, bench.numbers.bit())?;
+        bench.line(idle.as_slice())?;
+        let searches = bench.searches();
+        bench.tally.count(searches);
+        bench.release_all()?;
+        let octets = bench.numbers.below((limit * 7).min(1024));
+        let frame = bench.frame(octets.saturating_add(1))?;
+        let mut line = Vec::new(bench.heap);
+        bench.put_cltu(&mut line, frame.as_slice())?;
+        bench.symbols(line.as_slice())?;
+        let has_only = bench.has_only(frame.as_slice())?;
+        bench.tally.count(has_only);
+        Ok(())
+    }
 }
 
 /// One codeblock, for which a hold of no cells is full.
-fn full<H: Hold + Drop>(
-    heap: Global,
-    bench: &mut Bench<'_, H>,
-    setup: Setup,
-    numbers: &mut Numbers,
-    tally: &mut Tally,
-) -> anyhow::Result<()> {
-    bench.carrier_up(tally)?;
-    let frame = frame(heap, numbers.below(7).saturating_add(1), numbers)?;
-    let mut line = Vec::new(heap);
-    put_cltu(heap, &mut line, setup, frame.as_slice())?;
-    bench.symbols(line.as_slice(), tally)?;
-    bench.take_full(tally)?;
-    Ok(())
+#[derive(Clone, Copy)]
+struct Full;
+
+impl Trial for Full {
+    fn run<H: Hold + Drop>(&self, bench: &mut Bench<'_, H>) -> anyhow::Result<()> {
+        bench.carrier_up()?;
+        let octets = bench.numbers.below(7).saturating_add(1);
+        let frame = bench.frame(octets)?;
+        let mut line = Vec::new(bench.heap);
+        bench.put_cltu(&mut line, frame.as_slice())?;
+        bench.symbols(line.as_slice())?;
+        bench.take_full()?;
+        Ok(())
+    }
 }
 
 /// More reports than the lost count can say, each of a start with idle behind it.
-fn lost<H: Hold + Drop>(
-    heap: Global,
-    bench: &mut Bench<'_, H>,
-    tally: &mut Tally,
-) -> anyhow::Result<()> {
-    bench.carrier_up(tally)?;
-    let mut line = START.to_vec(heap)?;
-    put_idle(&mut line, 64, false)?;
-    for _ in 0..65600 {
-        bench.symbols(line.as_slice(), tally)?;
-    }
-    Ok(())
-}
+#[derive(Clone, Copy)]
+struct Lost;
 
-/// Idle bit by bit, until the receiver is back in SEARCH.
-fn idle<H: Hold + Drop>(
-    bench: &mut Bench<'_, H>,
-    setup: Setup,
-    first: bool,
-    tally: &mut Tally,
-) -> anyhow::Result<()> {
-    bench.carrier_up(tally)?;
-    for bit in START.iter().take(13) {
-        bench.symbols(&[*bit], tally)?;
-    }
-    if first {
-        bench.symbols(&[false], tally)?;
-    }
-    let mut bit = first;
-    for i in 0..setup.settings.limit.count() * 64 + 300 {
-        bench.symbols(&[bit], tally)?;
-        bit = !bit;
-        if i > 3 && bench.searches() {
-            break;
+impl Trial for Lost {
+    fn run<H: Hold + Drop>(&self, bench: &mut Bench<'_, H>) -> anyhow::Result<()> {
+        bench.carrier_up()?;
+        let mut line = START.to_vec(bench.heap)?;
+        put_idle(&mut line, 64, false)?;
+        for _ in 0..65600 {
+            bench.symbols(line.as_slice())?;
         }
+        Ok(())
     }
-    Ok(())
 }
 
-/// A trial over a hold to which this sequence is added.
-fn trial_over<H: Hold + Drop>(
-    heap: Global,
-    hold: H,
-    setup: Setup,
-    sequence: Vec<u8>,
-    trial: Trial,
-    numbers: &mut Numbers,
-    tally: &mut Tally,
-) -> anyhow::Result<()> {
-    let mut slots = vec![in heap; UNUSED; setup.slots]?;
-    let mut bench = Bench::new(heap, setup, hold, slots.as_mut_slice(), sequence);
-    match trial {
-        Trial::Full => full(heap, &mut bench, setup, numbers, tally),
-        Trial::Lost => lost(heap, &mut bench, tally),
-        Trial::Idle(first) => idle(&mut bench, setup, first, tally),
-        Trial::Recovery => recovery(heap, &mut bench, setup, numbers, tally),
-        _ => pass(heap, &mut bench, setup, numbers, tally),
+/// Idle from this bit on, behind as much of a start sequence as makes it last longest, bit by bit until
+/// the receiver is back in SEARCH.
+#[derive(Clone, Copy)]
+struct Idle {
+    first: bool,
+}
+
+impl Trial for Idle {
+    fn run<H: Hold + Drop>(&self, bench: &mut Bench<'_, H>) -> anyhow::Result<()> {
+        bench.carrier_up()?;
+        for bit in START.iter().take(13) {
+            bench.symbols(&[*bit])?;
+        }
+        if self.first {
+            bench.symbols(&[false])?;
+        }
+        for i in 0..bench.setup.settings.limit.count() * 64 + 300 {
+            bench.symbols(&[self.first == (i % 2 == 0)])?;
+            if i > 3 && bench.searches() {
+                break;
+            }
+        }
+        Ok(())
     }
 }
 
 /// A trial over a hold that matches the sender.
-fn run(
+fn run<T: Trial>(
     heap: Global,
     setup: Setup,
-    trial: Trial,
+    trial: &T,
     numbers: &mut Numbers,
     tally: &mut Tally,
 ) -> anyhow::Result<()> {
     let mut cells = vec![in heap; Cell::EMPTY; setup.cells]?;
+    let mut slots = vec![in heap; UNUSED; setup.slots]?;
+    let slots = slots.as_mut_slice();
     let mut ring = Ring::new(cells.as_mut_slice());
     match setup.randomizer {
         Randomizer::Off => {
             let none = Vec::new(heap);
-            trial_over(heap, &mut ring, setup, none, trial, numbers, tally)
+            trial.run(&mut Bench::new(heap, setup, &mut ring, slots, none, numbers, tally))
         }
         Randomizer::On => {
             let sequence = sequence(heap, 1029)?;
             let layer = Derandomizing::over(&mut ring);
-            trial_over(heap, layer, setup, sequence, trial, numbers, tally)
+            trial.run(&mut Bench::new(heap, setup, layer, slots, sequence, numbers, tally))
         }
     }
 }
 
-/// So many runs of a trial, each with another setup.
-fn trials(heap: Global, trial: Trial, runs: u32, numbers: &mut Numbers) -> anyhow::Result<Tally> {
-    let mut tally = Tally::NOTHING;
-    for _ in 0..runs {
-        tally.runs = tally.runs.saturating_add(1);
-        let setup = setup_for(trial, numbers)?;
-        run(heap, setup, trial, numbers, &mut tally)?;
-    }
-    Ok(tally)
+/// The trials so far.
+#[derive(Drop)]
+struct Trials<'a, R> {
+    rt: &'a R,
+    numbers: Numbers,
+    /// How many differences they found.
+    differences: u32,
 }
 
-/// Prints what a kind of trial compared.
-fn tell(rt: &HostRuntime, what: &str, tally: Tally) -> anyhow::Result<()> {
-    let Tally {
-        runs,
-        comparisons,
-        refused,
-        symbols,
-        reports,
-        differences,
-        first,
-    } = tally;
-    println!(rt;
-        "{what}: {runs} runs, {symbols} symbols, {reports} reports, {comparisons} comparisons, {refused} of them around refused calls"
-    )?;
-    if let Some((run, comparison)) = first {
-        println!(rt;
-            "{what}: {differences} differences, the first in run {run} at comparison {comparison}"
+impl<R: Print + AllocGlobal> Trials<'_, R> {
+    /// So many runs of a trial, each with another setup that was changed for it, and a line that tells what
+    /// they compared.
+    fn tried<T: Trial, F: Fn(Setup) -> Setup>(
+        &mut self,
+        what: &str,
+        runs: u32,
+        change: F,
+        trial: &T,
+    ) -> anyhow::Result<()>
+        requires { F.IsAlwaysCallable change }
+    {
+        let mut tally = Tally::NOTHING;
+        for _ in 0..runs {
+            tally.runs = tally.runs.saturating_add(1);
+            let setup = change(any_setup(&mut self.numbers)?);
+            run(self.rt.alloc(), setup, trial, &mut self.numbers, &mut tally)?;
+        }
+        self.differences = self.differences.saturating_add(tally.differences);
+        println!(self.rt; "{what}: {tally}")?;
+        if let Some((run, comparison)) = tally.first {
+            println!(self.rt;
+                "{what}: {} differences, the first in run {run} at comparison {comparison}",
+                tally.differences
+            )?;
+        }
+        Ok(())
+    }
+
+    /// All trials but those of feeds and those that count idle bits.
+    fn all(&mut self) -> anyhow::Result<()> {
+        self.tried("damaged passes", 600, |setup| setup, &Pass)?;
+        self.tried("queue of no slots", 100, |setup| untaken(setup, 0), &Pass)?;
+        self.tried("queue of one slot", 100, |setup| untaken(setup, 1), &Pass)?;
+        self.tried(
+            "more lost reports than are counted",
+            1,
+            |setup| Setup { slots: 0, ..setup },
+            &Lost,
         )?;
-    }
-    Ok(())
-}
-
-/// The idle bit at which a receiver with this limit is back in SEARCH: how many differences there were.
-fn recovery_bits(rt: &HostRuntime, limit: usize, first: bool) -> anyhow::Result<u32> {
-    let mut tally = Tally::NOTHING;
-    let mut numbers = Numbers::new(1);
-    let mut setup = any_setup(&mut numbers)?;
-    let Ok(settings) = Settings::new(Mode::Correcting, limit) else {
-        return Err(anyhow!("a limit was refused"));
-    };
-    setup.settings = settings;
-    setup.cells = limit;
-    run(
-        rt.alloc(),
-        setup,
-        Trial::Idle(first),
-        &mut numbers,
-        &mut tally,
-    )?;
-    // The start sequence ends with three bits of idle from a zero, or with two of idle from a one.
-    let back = tally.symbols.saturating_sub(13 + usize::from(first));
-    let first = u8::from(first);
-    println!(rt; "recovery L {limit}, idle from {first}: back at idle bit {back}")?;
-    tally.count(back == settings.limit.count() * 64 + 67 - usize::from(first == 1));
-    Ok(tally.differences)
-}
-
-/// So many runs of a trial, printed; the differences are added to the total.
-fn tried(
-    rt: &HostRuntime,
-    what: &str,
-    trial: Trial,
-    runs: u32,
-    numbers: &mut Numbers,
-    total: &mut u32,
-) -> anyhow::Result<()> {
-    let tally = trials(rt.alloc(), trial, runs, numbers)?;
-    *total = total.saturating_add(tally.differences);
-    tell(rt, what, tally)
-}
-
-/// All trials but those that count idle bits: how many differences there were.
-fn all_trials(rt: &HostRuntime) -> anyhow::Result<u32> {
-    let mut numbers = Numbers::new(1);
-    let mut total: u32 = 0;
-    for (what, trial, runs) in [
-        ("damaged passes", Trial::Pass, 600),
-        ("queue of no slots", Trial::Queue(0), 100),
-        ("queue of one slot", Trial::Queue(1), 100),
-        ("more lost reports than are counted", Trial::Lost, 1),
-        ("ring of no cells", Trial::NoCells, 100),
-        ("one codeblock for a ring of no cells", Trial::Full, 100),
-        ("recovery after garbage", Trial::Recovery, 600),
-    ] {
-        tried(rt, what, trial, runs, &mut numbers, &mut total)?;
-    }
-    for (what, feed) in [
-        ("passes as bits", Feed::Bits),
-        ("the same as soft levels", Feed::SoftLevels),
-        ("the same as both", Feed::Mixed),
-    ] {
-        tried(
-            rt,
-            what,
-            Trial::Feeds(feed),
+        self.tried("ring of no cells", 100, without_cells, &Pass)?;
+        self.tried(
+            "one codeblock for a ring of no cells",
             100,
-            &mut Numbers::new(3),
-            &mut total,
+            without_cells,
+            &Full,
         )?;
+        self.tried("recovery after garbage", 600, with_room, &Recovery)
     }
-    Ok(total)
+
+    /// The same passes, with their symbols brought in this way.
+    fn fed(&mut self, what: &str, feed: Feed) -> anyhow::Result<()> {
+        self.numbers = Numbers::new(3);
+        self.tried(what, 100, |setup| Setup { feed, ..setup }, &Pass)
+    }
+
+    /// The idle bit at which a receiver with this limit is back in SEARCH.
+    fn recovery_bits(&mut self, limit: usize, first: bool) -> anyhow::Result<()> {
+        let mut tally = Tally::NOTHING;
+        let mut numbers = Numbers::new(1);
+        let settings = Settings::new(Mode::Correcting, limit)
+            .ok()
+            .context("a limit was refused")?;
+        let setup = Setup {
+            settings,
+            cells: limit,
+            ..any_setup(&mut numbers)?
+        };
+        run(
+            self.rt.alloc(),
+            setup,
+            &Idle { first },
+            &mut numbers,
+            &mut tally,
+        )?;
+        // The start sequence ends with three bits of idle from a zero, or with two of idle from a one.
+        let back = tally.symbols.saturating_sub(13 + usize::from(first));
+        tally.count(back == settings.limit.count() * 64 + 67 - usize::from(first));
+        self.differences = self.differences.saturating_add(tally.differences);
+        let first = u8::from(first);
+        println!(self.rt; "recovery L {limit}, idle from {first}: back at idle bit {back}")?;
+        Ok(())
+    }
+}
+
+/// A queue of so many slots, from which nobody takes a report.
+fn untaken(setup: Setup, slots: usize) -> Setup {
+    Setup {
+        slots,
+        taken: false,
+        ..setup
+    }
+}
+
+fn without_cells(setup: Setup) -> Setup {
+    Setup { cells: 0, ..setup }
+}
+
+/// A hold that is not full before the limit is reached.
+fn with_room(setup: Setup) -> Setup {
+    Setup {
+        cells: setup.settings.limit.count() + 2,
+        ..setup
+    }
 }
 
 fn main(rt: HostRuntime) -> anyhow::Result<()> {
-    let mut differences = all_trials(&rt)?;
+    let mut trials = Trials {
+        rt: &rt,
+        numbers: Numbers::new(1),
+        differences: 0,
+    };
+    trials.all()?;
+    trials.fed("passes as bits", Feed::Bits)?;
+    trials.fed("the same as soft levels", Feed::SoftLevels)?;
+    trials.fed("the same as both", Feed::Mixed)?;
     for limit in [1, 2, 37, 147] {
-        differences = differences.saturating_add(recovery_bits(&rt, limit, false)?);
-        differences = differences.saturating_add(recovery_bits(&rt, limit, true)?);
+        trials.recovery_bits(limit, false)?;
+        trials.recovery_bits(limit, true)?;
     }
+    let differences = trials.differences;
     println!(rt; "differences: {differences}")?;
     Ok(())
 }
