@@ -1,7 +1,7 @@
 //! Octets as hexadecimal text, for programs on the ground that read and print frames.
 #![tactic(auto)]
 
-ghost use Rattle.std.specs.Prelude.{◌≡◌, ◌/◌, ◌%◌, ◌<◌, IfOk, vec_items, string_bytes};
+ghost use Rattle.std.specs.Prelude.{◌≡◌, ◌<◌, IfOk, vec_items, string_bytes};
 ghost use Rattle.std.specs.Option.{option_map};
 ghost use Rattle.hexadecimal.specs.Text.{digit_value, octet_of, octets_written, capital_digit, capital_digits, CapitalsReadBack};
 
@@ -37,9 +37,9 @@ pub fn capitals(heap: Global, octets: &[u8]) -> Result<String, AllocError>
 {
     let mut text = String::new(heap);
     for octet in octets {
-        let (high, low) = octet_digits(*octet);
-        text.push(high)?;
-        text.push(low)?;
+        let (high, low) = (octet / 16, octet % 16);
+        text.push(capital_digit(high))?;
+        text.push(capital_digit(low))?;
     }
     Ok(text)
 }
@@ -55,19 +55,8 @@ fn octet_value(high: u8, low: u8) -> Option<u8>
 fn digit_value(digit: u8) -> Option<u8>
     ensures { result ≡ digit_value digit }
 {
-    match digit {
-        b'0'..=b'9' => Some(digit - b'0'),
-        b'A'..=b'F' => Some(digit - b'A' + 10),
-        b'a'..=b'f' => Some(digit - b'a' + 10),
-        _ => None,
-    }
-}
-
-/// The two capital hexadecimal digits of an octet, the high digit first.
-fn octet_digits(octet: u8) -> (char, char)
-    ensures { result ≡ (capital_digit (octet / 16), capital_digit (octet % 16)) }
-{
-    (capital_digit(octet / 16), capital_digit(octet % 16))
+    let value = char::from(digit).to_digit(16)?;
+    Some(value as u8)
 }
 
 /// The capital hexadecimal digit of a value below 16.
@@ -75,11 +64,7 @@ fn capital_digit(value: u8) -> char
     requires { value < 16 }
     ensures { result ≡ capital_digit value }
 {
-    if value < 10 {
-        char::from(b'0' + value)
-    } else {
-        char::from(b'A' + (value - 10))
-    }
+    char::from(b"0123456789ABCDEF"[usize::from(value)])
 }
 
 #[cfg(test)]
