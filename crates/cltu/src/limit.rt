@@ -27,17 +27,8 @@ impl TryFrom<usize> for CodeblockLimit {
 }
 
 impl CodeblockLimit {
-    ghost use Rattle.cltu.specs.Limit.{made_count, limit_answer};
-
     /// As many codeblocks as any CLTU has.
     pub const MOST: CodeblockLimit = CodeblockLimit { count: 147 };
-
-    /// The greatest count of codeblocks in a CLTU. Refused with 4 outside 1 to 147.
-    pub fn new(count: usize) -> Result<CodeblockLimit, Refusal>
-        ensures { made_count result ≡ limit_answer count }
-    {
-        CodeblockLimit::try_from(count)
-    }
 
     /// The count.
     pub fn count(self) -> usize

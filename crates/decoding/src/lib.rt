@@ -35,7 +35,7 @@ impl Settings {
     pub fn new(mode: Mode, limit: usize) -> Result<Settings, Refusal>
         ensures { made_settings result ≡ settings_answer mode limit }
     {
-        let limit = CodeblockLimit::new(limit)?;
+        let limit = CodeblockLimit::try_from(limit)?;
         Ok(Settings { mode, limit })
     }
 }
