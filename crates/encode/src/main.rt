@@ -1,12 +1,12 @@
 //! `encode`: frames in, CLTUs out, one line each.
 #![tactic(auto)]
 
-use anyhow::anyhow;
+use anyhow::Context;
 use cltu::{CodeblockLimit, Sender};
 use command_line::{Program, Task};
 use frame_lines::answer_line;
 use randomizer::Randomizer;
-use std::io::{BufRead, BufReader};
+use std::io::{BufRead, BufReader, Read};
 use std::process::ExitCode;
 
 const HELP: &str = "\
@@ -45,13 +45,17 @@ fn asked_task(argument: &str) -> Option<Task<Randomizer>> {
     }
 }
 
-fn encode(rt: &HostRuntime, randomizer: Randomizer) -> anyhow::Result<()> {
-    let Ok(limit) = CodeblockLimit::new(147) else {
-        return Err(anyhow!("encode: no such limit"));
-    };
+fn encode(
+    rt: &(impl Print + AllocGlobal),
+    input: impl Read + Drop,
+    randomizer: Randomizer,
+) -> anyhow::Result<()> {
+    let limit = CodeblockLimit::new(147)
+        .ok()
+        .context("encode: no such limit")?;
     let sender = Sender { limit, randomizer };
     let heap = rt.alloc();
-    let mut input = BufReader::new(heap, rt.stdin())?;
+    let mut input = BufReader::new(heap, input)?;
     let mut line = Vec::new(heap);
     let mut lines: u64 = 0;
     let mut cltus: u64 = 0;
@@ -82,6 +86,6 @@ fn line_text(line: &[u8]) -> &[u8] {
 
 fn main(rt: HostRuntime) -> anyhow::Result<ExitCode> {
     PROGRAM.run(&rt, Task::Work(Randomizer::Off), asked_task, |randomizer| {
-        encode(&rt, randomizer)
+        encode(&rt, rt.stdin(), randomizer)
     })
 }
