@@ -59,5 +59,10 @@ fn receive(rt: &(impl Print + AllocGlobal), input: impl Read + Drop) -> anyhow::
 }
 
 fn main(rt: HostRuntime) -> anyhow::Result<ExitCode> {
-    PROGRAM.run(&rt, Task::Work(()), asked_task, |()| receive(&rt, rt.stdin()))
+    PROGRAM.run(
+        &rt,
+        Task::Work(()),
+        asked_task,
+        |()| receive(&rt, rt.stdin()),
+    )
 }
