@@ -35,7 +35,7 @@ The times differ from run to run, so without an argument nothing is measured.";
 const ROUNDS: u64 = 5;
 
 /// How many places of the sequence one repetition reads.
-const PLACES: u64 = 1_000;
+const PLACES: usize = 1_000;
 
 /// How many cells the large ring has, and the small one.
 const MANY_CELLS: usize = 8_192;
@@ -78,19 +78,19 @@ struct Sequence {
     first: usize,
 }
 
-// Sums a thousand octets at a time. Each repetition begins one place further than the last, so that
-// none is the same as the one before, and begins again after eight.
 impl Work for Sequence {
     fn operations(&self) -> u64 {
         50_000_000
     }
 
+    // Sums a thousand octets at a time. Each repetition begins one place further than the last, so that
+    // none is the same as the one before, and begins again after eight.
     fn checksum(&self, operations: u64, round: u64) -> u64 {
         let mut sum: u64 = round;
-        for repetition in 0..operations / PLACES {
+        for repetition in 0..operations / 1_000 {
             let from = self.first.wrapping_add((repetition & 7) as usize);
-            for place in from..from.saturating_add(PLACES as usize) {
-                sum = sum.wrapping_add(u64::from(sequence_octet(place)));
+            for k in 0..PLACES {
+                sum = sum.wrapping_add(u64::from(sequence_octet(from.wrapping_add(k))));
             }
         }
         sum
@@ -166,7 +166,6 @@ struct Judging {
     wrong: u64,
 }
 
-// Judges 1,000 codeblocks, made beforehand, again and again.
 impl Work for Judging {
     fn operations(&self) -> u64 {
         match self.wrong {
@@ -175,6 +174,7 @@ impl Work for Judging {
         }
     }
 
+    // Judges 1,000 codeblocks, made beforehand, again and again.
     fn checksum(&self, operations: u64, round: u64) -> u64 {
         let words: [u64; 1_000] = array::from_fn(|k| {
             let block = codeblock(information(round.wrapping_add(k as u64)));
@@ -206,12 +206,12 @@ struct Writing {
     sender: Sender,
 }
 
-// Writes the frame again and again, and changes an octet of it each time.
 impl Work for Writing {
     fn operations(&self) -> u64 {
         40_000
     }
 
+    // Writes the frame again and again, and changes an octet of it each time.
     fn checksum(&self, operations: u64, round: u64) -> u64 {
         let mut frame = [0x55u8; FRAME_OCTETS];
         let mut memory = [0u8; CLTU_OCTETS];
@@ -235,12 +235,12 @@ struct RingCalls {
     cells: usize,
 }
 
-// A candidate of two codeblocks comes and goes: eight calls each time.
 impl Work for RingCalls {
     fn operations(&self) -> u64 {
         8_000_000
     }
 
+    // A candidate of two codeblocks comes and goes: eight calls each time.
     fn checksum(&self, operations: u64, round: u64) -> u64 {
         let mut cells = [Cell::EMPTY; MANY_CELLS];
         let mut ring = Ring::new(&mut cells[..self.cells.min(MANY_CELLS)]);
@@ -420,9 +420,7 @@ impl PlainReceiver {
     }
 
     fn search(&mut self, bit: bool) {
-        for place in 0..15usize {
-            self.window[place] = self.window[place + 1];
-        }
+        self.window.rotate_left(1);
         self.window[15] = bit;
         self.entered = self.entered.saturating_add(1).min(16);
         if self.entered == 16 && self.wrong_bits() <= 1 {

@@ -5,7 +5,7 @@ use cltu::{CodeblockLimit, Sender};
 use command_line::{Program, Task};
 use frame_lines::{Answer, answer_line};
 use randomizer::Randomizer;
-use std::io::{BufRead, BufReader};
+use std::io::{BufRead, BufReader, Read};
 use std::process::ExitCode;
 
 const HELP: &str = "\
@@ -44,13 +44,17 @@ fn asked_task(argument: &str) -> Option<Task<Randomizer>> {
     }
 }
 
-fn encode(rt: &HostRuntime, randomizer: Randomizer) -> anyhow::Result<()> {
+fn encode(
+    rt: &(impl Print + AllocGlobal),
+    input: impl Read + Drop,
+    randomizer: Randomizer,
+) -> anyhow::Result<()> {
     let sender = Sender {
         limit: CodeblockLimit::MOST,
         randomizer,
     };
     let heap = rt.alloc();
-    let mut input = BufReader::new(heap, rt.stdin())?;
+    let mut input = BufReader::new(heap, input)?;
     let mut line = Vec::new(heap);
     let mut lines: u64 = 0;
     let mut cltus: u64 = 0;
@@ -81,6 +85,6 @@ fn line_text(line: &[u8]) -> &[u8] {
 
 fn main(rt: HostRuntime) -> anyhow::Result<ExitCode> {
     PROGRAM.run(&rt, Task::Work(Randomizer::Off), asked_task, |randomizer| {
-        encode(&rt, randomizer)
+        encode(&rt, rt.stdin(), randomizer)
     })
 }

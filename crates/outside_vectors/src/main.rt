@@ -6,43 +6,48 @@ use coding::{codeblock, judge, syndrome, wrong_place};
 use hexadecimal::{capitals, read_octets};
 use std::alloc::{AllocError, Global};
 
-fn code_line(heap: Global, octets: &[u8]) -> Result<String, AllocError> {
-    let [a, b, c, d, e, f, g] = octets else {
-        return String::from_str(heap, "unreadable");
-    };
-    let digits = capitals(heap, &codeblock([*a, *b, *c, *d, *e, *f, *g]))?;
-    format!(in heap; "codeblock {digits}")
+/// What a line asks of the code.
+#[derive(Clone, Copy)]
+enum Question {
+    /// The codeblock of this information.
+    Code([u8; 7]),
+    /// What is made of this word.
+    Word(u64),
 }
 
-fn verdict_text(heap: Global, verdict: Verdict) -> Result<String, AllocError> {
-    match verdict {
-        Verdict::Rejected => String::from_str(heap, "rejected"),
-        Verdict::Accepted {
-            information,
-            corrected: false,
-        } => capitals(heap, &information),
-        Verdict::Accepted {
-            information,
-            corrected: true,
-        } => {
-            let digits = capitals(heap, &information)?;
-            format!(in heap; "{digits} corrected")
+impl Question {
+    // `None` where the line cannot be read.
+    fn read(heap: Global, line: &str) -> Result<Option<Question>, AllocError> {
+        let Some((kind, digits)) = line.split_once(' ') else {
+            return Ok(None);
+        };
+        let Some(octets) = read_octets(heap, digits.as_bytes())? else {
+            return Ok(None);
+        };
+        let octets = octets.as_slice();
+        Ok(match kind {
+            "code" => octets
+                .as_array()
+                .map(|information| Question::Code(*information)),
+            "word" => octets
+                .as_array()
+                .map(|word| Question::Word(u64::from_be_bytes(*word))),
+            _ => None,
+        })
+    }
+
+    fn answer(self, heap: Global) -> Result<String, AllocError> {
+        match self {
+            Question::Code(information) => {
+                let digits = capitals(heap, &codeblock(information))?;
+                format!(in heap; "codeblock {digits}")
+            }
+            Question::Word(word) => word_answer(heap, word),
         }
     }
 }
 
-fn place_text(heap: Global, number: u8) -> Result<String, AllocError> {
-    match wrong_place(number) {
-        Some(degree) => format!(in heap; "{degree}"),
-        None => String::from_str(heap, "-"),
-    }
-}
-
-fn word_line(heap: Global, octets: &[u8]) -> Result<String, AllocError> {
-    let [a, b, c, d, e, f, g, h] = octets else {
-        return String::from_str(heap, "unreadable");
-    };
-    let word = u64::from_be_bytes([*a, *b, *c, *d, *e, *f, *g, *h]);
+fn word_answer(heap: Global, word: u64) -> Result<String, AllocError> {
     let (parity, number) = syndrome(word);
     let place = place_text(heap, number)?;
     let detecting = verdict_text(heap, judge(Mode::Detecting, word))?;
@@ -52,15 +57,32 @@ fn word_line(heap: Global, octets: &[u8]) -> Result<String, AllocError> {
     )
 }
 
-fn answer(heap: Global, line: &str) -> Result<String, AllocError> {
-    let (kind, digits) = line.split_once(' ').unwrap_or((line, ""));
-    let Some(octets) = read_octets(heap, digits.as_bytes())? else {
-        return String::from_str(heap, "unreadable");
+fn place_text(heap: Global, number: u8) -> Result<String, AllocError> {
+    match wrong_place(number) {
+        Some(degree) => degree.to_string(heap),
+        None => String::from_str(heap, "-"),
+    }
+}
+
+fn verdict_text(heap: Global, verdict: Verdict) -> Result<String, AllocError> {
+    let Verdict::Accepted {
+        information,
+        corrected,
+    } = verdict
+    else {
+        return String::from_str(heap, "rejected");
     };
-    match kind {
-        "code" => code_line(heap, octets.as_slice()),
-        "word" => word_line(heap, octets.as_slice()),
-        _ => String::from_str(heap, "unreadable"),
+    let mut text = capitals(heap, &information)?;
+    if corrected {
+        text.push_str(" corrected")?;
+    }
+    Ok(text)
+}
+
+fn answer(heap: Global, line: &str) -> Result<String, AllocError> {
+    match Question::read(heap, line)? {
+        Some(question) => question.answer(heap),
+        None => String::from_str(heap, "unreadable"),
     }
 }
 

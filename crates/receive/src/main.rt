@@ -49,16 +49,20 @@ fn asked_task(argument: &str) -> Option<Task<()>> {
     (argument == "--help").then_some(Task::Help)
 }
 
-fn receive(rt: &HostRuntime) -> anyhow::Result<()> {
+fn receive(rt: &(impl Print + AllocGlobal), input: impl Read + Drop) -> anyhow::Result<()> {
     let heap = rt.alloc();
     let mut octets = Vec::new(heap);
-    let mut input = rt.stdin().take(MOST);
-    input.read_to_end(&mut octets)?;
+    input.take(MOST).read_to_end(&mut octets)?;
     let text = answer_record(heap, octets.as_slice())?;
     rt.print(text.as_str())?;
     Ok(())
 }
 
 fn main(rt: HostRuntime) -> anyhow::Result<ExitCode> {
-    PROGRAM.run(&rt, Task::Work(()), asked_task, |()| receive(&rt))
+    PROGRAM.run(
+        &rt,
+        Task::Work(()),
+        asked_task,
+        |()| receive(&rt, rt.stdin()),
+    )
 }
