@@ -2,7 +2,7 @@
 #![tactic(auto)]
 
 use anyhow::Context;
-use bch::{Mode, Verdict};
+use bch::{Accepted, Mode};
 use cltu::{CodeblockLimit, Sender};
 use coding::{codeblock, judge};
 use command_line::{Program, Task};
@@ -190,14 +190,12 @@ impl Work for Judging {
     }
 }
 
-fn judged_number(verdict: Verdict) -> u64 {
-    match verdict {
-        Verdict::Rejected => 1,
-        Verdict::Accepted { information, .. } => {
-            let [a, b, c, d, e, f, g] = information;
-            u64::from_be_bytes([a, b, c, d, e, f, g, 0])
-        }
-    }
+fn judged_number(verdict: Option<Accepted>) -> u64 {
+    let Some(accepted) = verdict else {
+        return 1;
+    };
+    let [a, b, c, d, e, f, g] = accepted.information;
+    u64::from_be_bytes([a, b, c, d, e, f, g, 0])
 }
 
 /// CLTUs of a frame of 1,024 octets.
@@ -314,13 +312,11 @@ fn pass_bit(cltu: &[u8], place: usize) -> bool {
 /// The bits of the pass.
 fn pass_bits(round: u64) -> [bool; SYMBOLS] {
     let mut cltu = [0u8; 306];
-    if let Ok(limit) = CodeblockLimit::new(37) {
-        let sender = Sender {
-            limit,
-            randomizer: Randomizer::Off,
-        };
-        let _ = sender.write_cltu(&[(round & 255) as u8; 259], &mut cltu);
-    }
+    let sender = Sender {
+        limit: CodeblockLimit::MOST,
+        randomizer: Randomizer::Off,
+    };
+    let _ = sender.write_cltu(&[(round & 255) as u8; 259], &mut cltu);
     array::from_fn(|place| pass_bit(&cltu, place))
 }
 
@@ -663,9 +659,7 @@ fn time_verdict(rt: &(impl Print + Clock)) -> anyhow::Result<()> {
 }
 
 fn time_writing(rt: &(impl Print + Clock)) -> anyhow::Result<()> {
-    let limit = CodeblockLimit::new(147)
-        .ok()
-        .context("benchmarks: no such limit")?;
+    let limit = CodeblockLimit::MOST;
     let on = Writing {
         sender: Sender {
             limit,

@@ -1,7 +1,7 @@
 //! Runs the code on test vectors that an unrelated encoder made: see vectors/README.md.
 #![tactic(auto)]
 
-use bch::{Mode, Verdict};
+use bch::{Accepted, Mode};
 use coding::{codeblock, judge, syndrome, wrong_place};
 use hexadecimal::{capitals, read_octets};
 use std::alloc::{AllocError, Global};
@@ -64,16 +64,12 @@ fn place_text(heap: Global, number: u8) -> Result<String, AllocError> {
     }
 }
 
-fn verdict_text(heap: Global, verdict: Verdict) -> Result<String, AllocError> {
-    let Verdict::Accepted {
-        information,
-        corrected,
-    } = verdict
-    else {
+fn verdict_text(heap: Global, verdict: Option<Accepted>) -> Result<String, AllocError> {
+    let Some(accepted) = verdict else {
         return String::from_str(heap, "rejected");
     };
-    let mut text = capitals(heap, &information)?;
-    if corrected {
+    let mut text = capitals(heap, &accepted.information)?;
+    if accepted.corrected {
         text.push_str(" corrected")?;
     }
     Ok(text)

@@ -469,11 +469,10 @@ impl<'a, H: Hold + Drop> Bench<'a, H> {
 
     /// The CLTU of a frame, which may have more codeblocks than the receiver's limit.
     fn put_cltu(&self, line: &mut Vec<bool>, frame: &[u8]) -> anyhow::Result<()> {
-        let limit = CodeblockLimit::new(147)
-            .ok()
-            .context("the sender's limit was refused")?;
-        let randomizer = self.setup.randomizer;
-        let sender = Sender { limit, randomizer };
+        let sender = Sender {
+            limit: CodeblockLimit::MOST,
+            randomizer: self.setup.randomizer,
+        };
         let mut memory = vec![in self.heap; 0u8; 1186]?;
         let octets = sender
             .write_cltu(frame, memory.as_mut_slice())
