@@ -1,7 +1,6 @@
 //! `benchmarks`: what the code costs, against rivals in the same run.
 #![tactic(auto)]
 
-use anyhow::Context;
 use bch::{Accepted, Mode};
 use cltu::{CodeblockLimit, Sender};
 use coding::{codeblock, judge};
