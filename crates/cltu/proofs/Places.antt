@@ -1,5 +1,5 @@
 -- Where the octets of a CLTU stand. Assumes nothing.
-use Rattle.std.proofs.Common.{◌≡◌, ℕ, zero, suc, ◌+◌, ◌-◌, ◌*◌, ◌<◌, ◌≤◌, List, [], ◌∷◌, ◌++◌, length, get_or, take, drop, sym, refl, ◌∙◌, suc-add, zero-add, arith, lit<}
+use Rattle.std.proofs.Common.{◌≡◌, ℕ, zero, suc, ◌+◌, ◌-◌, ◌*◌, ◌<◌, ◌≤◌, List, [], ◌∷◌, ◌++◌, length, get_or, take, drop, sym, refl, ◌∙◌, suc-add, zero-add, add-zero, arith, lit<}
 use lib.Bits.{bit_xor}
 use Rattle.std.proofs.lemmas.Grind.{common_steps}
 use Rattle.std.proofs.lemmas.List.{append-nil, append_assoc, length-append, length-replicate, length-drop, length-take-le, get_or-take, get_or-drop, take_at, drop_at, drop-drop}
@@ -39,18 +39,16 @@ module _ (r : Randomizer) (frame : List ℕ) where
   sent_at place h = grind (arith, get_or_randomized_from, filled_at, length_filled, zero-add)
 
   -- seven of them, one by one
-  pub seven_sent : (ys : List ℕ) (index : ℕ) → index < codeblocks_for (length frame) → length ys ≡ 7 →
+  pub seven_sent : (index : ℕ) → index < codeblocks_for (length frame) →
       let xs = randomized r (filled frame) in
-      get_or ys 0 0 ≡ get_or xs (7 * index + 0) 0 → get_or ys 1 0 ≡ get_or xs (7 * index + 1) 0 → get_or ys 2 0 ≡ get_or xs (7 * index + 2) 0 →
-      get_or ys 3 0 ≡ get_or xs (7 * index + 3) 0 → get_or ys 4 0 ≡ get_or xs (7 * index + 4) 0 → get_or ys 5 0 ≡ get_or xs (7 * index + 5) 0 →
-      get_or ys 6 0 ≡ get_or xs (7 * index + 6) 0 → ys ≡ take 7 (drop (7 * index) xs)
-  seven_sent ys index within seven a b c d e f g =
+      let first = 7 * index in
+      get_or xs first 0 ∷ get_or xs (first + 1) 0 ∷ get_or xs (first + 2) 0 ∷ get_or xs (first + 3) 0 ∷ get_or xs (first + 4) 0 ∷ get_or xs (first + 5) 0 ∷ get_or xs (first + 6) 0 ∷ []
+      ≡ take 7 (drop first xs)
+  seven_sent index within =
       let rest = drop (7 * index) (randomized r (filled frame)) in
-      let long = length-take-le 7 rest (omega (arith, length-drop {A = ℕ}, length_sent)) in
       let there : (k : ℕ) → k < 7 → get_or (randomized r (filled frame)) (7 * index + k) 0 ≡ get_or (take 7 rest) k 0 = λ k h. sym (get_or-take 7 rest k 0 h ∙ get_or-drop (7 * index) _ k 0) in
-      sym (pick_l_whole 0 ys 7 seven)
-      ∙ (λ j. (a ∙ there 0 (lit< tt)) j ∷ (b ∙ there 1 (lit< tt)) j ∷ (c ∙ there 2 (lit< tt)) j ∷ (d ∙ there 3 (lit< tt)) j ∷ (e ∙ there 4 (lit< tt)) j ∷ (f ∙ there 5 (lit< tt)) j ∷ (g ∙ there 6 (lit< tt)) j ∷ [])
-      ∙ pick_l_whole 0 (take 7 rest) 7 long
+      (λ j. (rw add-zero at (there 0 (lit< tt))) j ∷ there 1 (lit< tt) j ∷ there 2 (lit< tt) j ∷ there 3 (lit< tt) j ∷ there 4 (lit< tt) j ∷ there 5 (lit< tt) j ∷ there 6 (lit< tt) j ∷ [])
+      ∙ pick_l_whole 0 (take 7 rest) 7 (length-take-le 7 rest (omega (arith, length-drop {A = ℕ}, length_sent)))
 
   pub length_cltu : length (cltu r frame) ≡ 10 + 8 * codeblocks_for (length frame)
   length_cltu = grind (arith, length-append, length_coded, length_sent)

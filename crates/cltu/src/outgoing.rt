@@ -5,7 +5,6 @@ ghost use Rattle.cltu.specs.Cltu.{codeblocks_for, filled, coded, cltu};
 use crate::codeblocks_for;
 use coding::codeblock;
 use randomizer::Randomizer;
-use std::array;
 
 const START_SEQUENCE: [u8; 2] = [0xEB, 0x90];
 
@@ -58,7 +57,16 @@ impl<'a> Outgoing<'a> {
         requires { index < self.now.codeblocks }
         ensures { result ≡ take 7 (drop (7 * index) (randomized self.now.randomizer (filled self.now.frame.now))) }
     {
-        array::from_fn(|place| self.octet(7 * index + place))
+        let first = 7 * index;
+        [
+            self.octet(first),
+            self.octet(first + 1),
+            self.octet(first + 2),
+            self.octet(first + 3),
+            self.octet(first + 4),
+            self.octet(first + 5),
+            self.octet(first + 6),
+        ]
     }
 
     // Puts the codeblocks into memory for just these.
