@@ -1,5 +1,5 @@
 -- What a program's arguments ask it for.
-use Rattle.std.specs.Prelude.{List, [], ◌∷◌, Option, Some, None, Result, Ok, Err}
+use Rattle.std.specs.Prelude.{ℕ, List, [], ◌∷◌, Option, Some, None, Result, Ok, Err, codes}
 use Rattle.command_line.specs.declared.ArgumentError.{ArgumentError}
 use Rattle.command_line.specs.declared.ArgumentError.TheVariants.{Unknown, TooMany}
 
@@ -8,3 +8,8 @@ abbrev pub taken_alone : {T X : Type 0} → Option T → List X → Result T Arg
 taken_alone None _ = Err Unknown
 taken_alone (Some task) [] = Ok task
 taken_alone (Some task) (_ ∷ _) = Err TooMany
+
+-- how the text of an error begins, before the program's list of its arguments
+abbrev pub error_text : ArgumentError → List ℕ
+error_text Unknown = codes "the one argument is"
+error_text TooMany = codes "at most one argument,"

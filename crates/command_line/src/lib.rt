@@ -5,7 +5,7 @@ ghost use Rattle.std.specs.Prelude.{◌≡◌, [], ◌∷◌, Option, Some, stri
 ghost use Rattle.std.specs.Fn.{FnOnceReturnsAt};
 ghost use Rattle.std.specs.Process.{exit_status};
 ghost use Rattle.command_line.specs.declared.Task.{Task};
-ghost use Rattle.command_line.specs.Arguments.{taken_alone};
+ghost use Rattle.command_line.specs.Arguments.{taken_alone, error_text};
 ghost use Rattle.command_line.specs.Asked.{CanBeAsked, CanBeDone};
 
 use anyhow::anyhow;
@@ -33,6 +33,8 @@ pub enum ArgumentError {
 
 /// As far as the program's list of its arguments, which stands behind it.
 impl fmt::Display for ArgumentError {
+    ghost output = { λ e. Some (error_text e) };
+
     fn fmt<W: fmt::Write>(&self, f: &mut fmt::Formatter<W>) -> fmt::Result {
         f.write_str(match self {
             ArgumentError::Unknown => "the one argument is",
