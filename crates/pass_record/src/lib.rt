@@ -363,9 +363,7 @@ mod tests {
         requires { 16 ≤ length octets.old }
     {
         let place = octets.len() - 16;
-        for i in 0..16 {
-            octets[place + i] = end[i];
-        }
+        octets[place..].copy_from_slice(end);
         refused(octets)
     }
 
