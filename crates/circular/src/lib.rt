@@ -4,9 +4,9 @@
 ghost use Rattle.std.specs.Prelude.{◌≡◌, ℕ, ◌<◌, ◌≤◌, List, length};
 ghost use Rattle.circular.specs.Circle.{round_from, Turned};
 
-/// The place that comes so many after a first place, in a circle of so many places. A first place past
-/// the last stands for the first of all. The answer goes past the last place once: where so many are
-/// more than a whole round, it counts on from the first place and may itself be past the last.
+/// The place that comes `turn` after `first`, in a circle of so many places: after the last comes place 0. A
+/// `first` past the last place stands for place 0. The answer passes the last place once: where `turn` is more
+/// than a whole round, it counts on from place 0 and may itself be past the last.
 #[tactic(auto, using(crate::proofs::Rounds::round_at))]
 pub fn place_after(places: usize, first: usize, turn: usize) -> usize
     ensures place { Turned places first turn result }

@@ -1,7 +1,7 @@
 //! Writing a frame as a CLTU into the caller's memory.
 #![tactic(auto)]
 
-ghost use Rattle.std.specs.Prelude.{◌≡◌, not};
+ghost use Rattle.std.specs.Prelude.{◌≡◌};
 ghost use Rattle.cltu.specs.Cltu.{codeblocks_for, LeastThatHolds};
 ghost use Rattle.cltu.specs.Writing.{frame_refused, writing_answer, memory_after};
 
@@ -32,11 +32,11 @@ pub fn codeblocks_for(octets: usize) -> usize
 }
 
 impl Sender {
-    // Whether a frame of so many octets is taken, and not refused.
-    fn takes(self, octets: usize) -> bool
-        ensures { result ≡ not (frame_refused self.limit.count octets) }
+    // Whether a frame of so many octets is refused.
+    fn refuses(self, octets: usize) -> bool
+        ensures { result ≡ frame_refused self.limit.count octets }
     {
-        (1..=1024).contains(&octets) && octets <= 7 * self.limit.count()
+        !(1..=1024).contains(&octets) || octets > 7 * self.limit.count()
     }
 
     /// Writes the CLTU of a frame at the front of the memory and answers how many octets it has.
@@ -46,7 +46,7 @@ impl Sender {
         ensures answer { result ≡ writing_answer self frame.now memory.old }
         ensures memory { memory.new ≡ memory_after self frame.now memory.old result }
     {
-        if !self.takes(frame.len()) {
+        if self.refuses(frame.len()) {
             return Err(Refusal::FrameLength);
         }
         let outgoing = Outgoing::new(frame, self.randomizer);

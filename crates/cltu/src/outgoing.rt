@@ -12,7 +12,7 @@ const TAIL_SEQUENCE: [u8; 8] = [0xC5, 0xC5, 0xC5, 0xC5, 0xC5, 0xC5, 0xC5, 0x79];
 
 const FILL: u8 = 0x55;
 
-/// A frame that a sender takes, on its way into a CLTU.
+/// A frame that a sender takes, and how many codeblocks its CLTU has.
 #[derive(Clone, Copy)]
 pub(crate) struct Outgoing<'a> {
     frame: &'a [u8],

@@ -68,7 +68,7 @@ impl<'a> Ring<'a> {
 
     // How many codeblocks the open candidate has. Refused where none is open.
     #[tactic(auto, using(crate::proofs::Writes::is_open))]
-    fn unfinished(&self) -> Result<usize, Refusal>
+    fn unfinished_codeblocks(&self) -> Result<usize, Refusal>
         ensures { MatchResult result (Open self.now) (NoneOpen self.now) }
     {
         self.unfinished.ok_or(Refusal::NoCandidateOpen)
@@ -131,7 +131,7 @@ impl<'a> Hold for Ring<'a> {
 
     #[tactic(auto, using(crate::proofs::Writes::same_length, crate::proofs::Writes::add_answered, crate::proofs::Writes::stored))]
     fn add(&mut self, octets: [u8; 7]) -> Result<(), Refusal> {
-        let codeblocks = self.unfinished()?;
+        let codeblocks = self.unfinished_codeblocks()?;
         if self.held() == self.cells.len() {
             return Err(Refusal::NoFreeSpace);
         }
@@ -147,7 +147,7 @@ impl<'a> Hold for Ring<'a> {
 
     #[tactic(auto, using(crate::proofs::Writes::same_length, crate::proofs::Writes::counted, crate::proofs::Writes::counted_whole, crate::proofs::Writes::first_open))]
     fn finish(&mut self) -> Result<(), Refusal> {
-        let codeblocks = self.unfinished()?;
+        let codeblocks = self.unfinished_codeblocks()?;
         if codeblocks == 0 {
             return Err(Refusal::CandidateEmpty);
         }
@@ -161,7 +161,7 @@ impl<'a> Hold for Ring<'a> {
     }
 
     fn abandon(&mut self) -> Result<(), Refusal> {
-        let _ = self.unfinished()?;
+        let _ = self.unfinished_codeblocks()?;
         self.unfinished = None;
         Ok(())
     }
