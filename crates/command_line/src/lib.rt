@@ -1,12 +1,10 @@
 //! What the programs share: the one argument that each may have, and how a run of one ends.
 #![tactic(auto)]
 
-ghost use Rattle.std.specs.Prelude.{◌≡◌, [], ◌∷◌, Option, Some, string_bytes, IfOk, OnOk};
-ghost use Rattle.std.specs.Fn.{FnOnceReturnsAt};
+ghost use Rattle.std.specs.Prelude.{◌≡◌, ◌⊎◌, ℕ, List, Result, Some, map, string_bytes, IfOk};
 ghost use Rattle.std.specs.Process.{exit_status};
-ghost use Rattle.command_line.specs.declared.Task.{Task};
-ghost use Rattle.command_line.specs.Arguments.{taken_alone, error_text};
-ghost use Rattle.command_line.specs.Asked.{CanBeAsked, CanBeDone};
+ghost use Rattle.command_line.specs.Arguments.{error_text};
+ghost use Rattle.command_line.specs.Asked.{Asks, EndsWith, Ends, status_of};
 
 use anyhow::anyhow;
 use std::env::Env;
@@ -50,10 +48,7 @@ pub fn asked<T: Drop, F: FnOnce(&str) -> Option<T>>(
     read: F,
 ) -> Result<T, ArgumentError>
     requires { F.IsAlwaysCallable read }
-    ensures none { arguments.now ≡ [] → result ≡ Ok unasked }
-    ensures some { (first : _) (others : _) → arguments.now ≡ first ∷ others
-        → (task : Option T) × FnOnceReturnsAt F.FnOnce read (string_bytes first) task × result ≡ taken_alone task others }
-    ensures source { IfOk result (CanBeAsked F.FnOnce read unasked) }
+    ensures { Asks F.FnOnce read unasked (map string_bytes arguments.now) result }
 {
     let Some((first, others)) = arguments.split_first() else {
         return Ok(unasked);
@@ -66,18 +61,37 @@ pub fn asked<T: Drop, F: FnOnce(&str) -> Option<T>>(
     }
 }
 
+/// The status of a program that did its work, or did not. An error is printed as one line on standard error.
+pub fn status<R: Eprint>(rt: &R, done: anyhow::Result<()>) -> anyhow::Result<ExitCode>
+    ensures { IfOk result (λ status. exit_status status ≡ status_of done) }
+{
+    match done {
+        Ok(()) => Ok(ExitCode::SUCCESS),
+        Err(e) => {
+            eprintln!(rt; "{e}")?;
+            Ok(ExitCode::FAILURE)
+        }
+    }
+}
+
+fn arguments<R: Env + AllocGlobal>(rt: &R) -> anyhow::Result<Vec<String>> {
+    Ok(env::args(rt)?.skip(1).collect(rt.alloc())?)
+}
+
 /// A program as its user calls it.
 #[derive(Clone, Copy)]
 pub struct Program<'a> {
+    /// Its name, with which its errors begin.
     pub name: &'a str,
     /// The arguments that it knows, as its errors tell them.
     pub arguments: &'a str,
+    /// What it prints when it is asked for help.
     pub help: &'a str,
 }
 
 impl Program<'_> {
-    /// Runs the program: its work, or its help. An error is printed as one line on standard error.
-    /// The status is 0 only where what the arguments ask for was done.
+    /// Runs the program on the arguments that it was called with, as `run_on` does. Where they cannot be read
+    /// that is an error like any other.
     pub fn run<R, T, F, W>(
         &self,
         rt: &R,
@@ -92,32 +106,53 @@ impl Program<'_> {
         W: FnOnce(T) -> anyhow::Result<()>,
         requires reads { F.IsAlwaysCallable read }
         requires works { W.IsAlwaysCallable work }
-        ensures { IfOk result (λ status. exit_status status ≡ 0
-            → (task : Task T) × CanBeAsked F.FnOnce read unasked task × CanBeDone W.FnOnce work task) }
+        ensures { IfOk result (λ status. (exit_status status ≡ 1) ⊎ ((arguments : List (List ℕ)) × Ends F.FnOnce W.FnOnce read work unasked arguments (exit_status status))) }
     {
-        match self.done(rt, unasked, read, work) {
-            Ok(()) => Ok(ExitCode::SUCCESS),
-            Err(e) => {
-                eprintln!(rt; "{e}")?;
-                Ok(ExitCode::FAILURE)
-            }
+        match arguments(rt) {
+            Ok(arguments) => self.run_on(rt, arguments.as_slice(), unasked, read, work),
+            Err(e) => status(rt, Err(e)),
         }
     }
 
-    // Does what the arguments ask for.
-    fn done<R, T, F, W>(&self, rt: &R, unasked: Task<T>, read: F, work: W) -> anyhow::Result<()>
+    /// Runs the program on these arguments: its work, or its help. The status is 0 where the work went well,
+    /// and 1 where it did not, where the arguments ask for nothing, or where the help could not be printed.
+    pub fn run_on<R, T, F, W>(
+        &self,
+        rt: &R,
+        arguments: &[String],
+        unasked: Task<T>,
+        read: F,
+        work: W,
+    ) -> anyhow::Result<ExitCode>
     where
-        R: Env + AllocGlobal + Print,
+        R: Print + Eprint,
         T: Drop,
         F: FnOnce(&str) -> Option<Task<T>>,
         W: FnOnce(T) -> anyhow::Result<()>,
         requires reads { F.IsAlwaysCallable read }
         requires works { W.IsAlwaysCallable work }
-        ensures { OnOk result
-            ((task : Task T) × CanBeAsked F.FnOnce read unasked task × CanBeDone W.FnOnce work task) }
+        ensures { IfOk result (λ status. Ends F.FnOnce W.FnOnce read work unasked (map string_bytes arguments.now) (exit_status status)) }
     {
-        let arguments: Vec<String> = env::args(rt)?.skip(1).collect(rt.alloc())?;
-        match asked(arguments.as_slice(), unasked, read) {
+        let task = asked(arguments, unasked, read);
+        let done = self.done(rt, task, work);
+        status(rt, done)
+    }
+
+    // Does what the arguments ask for.
+    fn done<R, T, W>(
+        &self,
+        rt: &R,
+        asked: Result<Task<T>, ArgumentError>,
+        work: W,
+    ) -> anyhow::Result<()>
+    where
+        R: Print,
+        T: Drop,
+        W: FnOnce(T) -> anyhow::Result<()>,
+        requires { W.IsAlwaysCallable work }
+        ensures { EndsWith W.FnOnce work asked (status_of result) }
+    {
+        match asked {
             Ok(Task::Help) => {
                 rt.println(self.help)?;
                 Ok(())
