@@ -1,14 +1,14 @@
 -- A ring's candidates in its cells: how many codeblocks they have, and the oldest of them. Assumes nothing.
-use Rattle.std.proofs.Common.{◌≡◌, ℕ, zero, suc, ◌+◌, ◌-◌, ◌*◌, ◌/◌, ◌%◌, ◌<◌, ◌≤◌, true, false, eqb, ltb, leb, List, [], ◌∷◌, ◌++◌, length, get_or, take, drop, Some, None, Ok, Option, sym, refl, ap, ◌∙◌, ⊎_elim, arith}
-use Rattle.std.proofs.lemmas.List.{length-take-le, length-drop, get_or-take, take-append-le, drop-append-le, drop-drop, drop-take}
+use Rattle.std.proofs.Common.{◌≡◌, ℕ, zero, suc, ◌+◌, ◌-◌, ◌*◌, ◌/◌, ◌%◌, ◌<◌, ◌≤◌, true, false, eqb, ltb, leb, List, [], ◌∷◌, ◌++◌, length, get_or, take, drop, set, Some, None, Ok, Option, sym, refl, ap, ◌∙◌, ap₂, ⊎_elim, arith}
+use Rattle.std.proofs.lemmas.List.{length-take-le, length-drop, get_or-take, take_all, take_more, take_more_set, get_or-drop, take-append-le, drop-append-le, drop-drop, drop-take}
 use Rattle.std.proofs.lemmas.Bool.{cases_eq, cond-true, cond-false, lt-ltb, le-ltb, le-leb, lt-leb, eq-eqb, ne_eqb, or_left, or_right, or_from}
 use Rattle.circular.specs.Circle.{round_from, Turned}
-use Rattle.circular.proofs.Rounds.{length_round_from, turned_within, round_from_on, get_or_turned}
+use Rattle.circular.proofs.Rounds.{length_round_from, round_from_on, get_or_turned}
 use Rattle.hold.specs.Candidates.{finished_codeblocks, open_codeblocks, lies_within, oldest_length, oldest_octet, stretch_answer, after_stretch, after_release, release_answer}
 use Rattle.ring.specs.declared.cells.Cell.{Cell}
 use Rattle.ring.specs.declared.cells.Ring.{Ring}
 use Rattle.ring.specs.Cells.{octets_of, first_count, grouped, parted, added, unfinished_in}
-use Rattle.ring.specs.Held.{in_turn, capacity_of, finished_in, opened_in, oldest_of, Oldest, BehindOldest}
+use Rattle.ring.specs.Held.{in_turn, capacity_of, finished_in, opened_in, oldest_of, Oldest}
 use Rattle.ring.specs.Sound.{length_octets_take, finished_codeblocks_used, open_codeblocks_added}
 use Rattle.ring.proofs.Groups.{get_or_octets_of, length_grouped, few_parts, First, first_of}
 
@@ -23,6 +23,13 @@ first_count_get_or (cell ∷ cells) = refl
 pub some_wait : (n : ℕ) (cells : List Cell) → 0 < length (oldest_of (grouped n cells)) → 0 < n
 some_wait zero cells h = absurd (omega arith)
 some_wait (suc n) cells h = omega arith
+
+-- one octet more of a stretch
+pub read_more : (candidate memory : List ℕ) (place i octet : ℕ) → take i memory ≡ take i (drop place candidate) → i < length memory → place + i < length candidate → octet ≡ get_or candidate (place + i) 0 →
+    take (i + 1) (set memory i octet) ≡ take (i + 1) (drop place candidate)
+read_more candidate memory place i octet so_far h inside is =
+    take_more_set memory i octet h ∙ ap₂ (λ l x. l ++ x ∷ []) so_far (is ∙ sym (get_or-drop place candidate i 0))
+    ∙ sym (take_more (drop place candidate) i 0 (omega (arith, length-drop place candidate)))
 
 module _ (ring : Ring) where
   abbrev used_cells : List Cell
@@ -66,6 +73,7 @@ module _ (ring : Ring) where
           within = omega (arith, oldest_first.within, length_used_cells);
           octets = omega (arith, length_oldest);
           answer = ap oldest_length held ∙ ap Ok length_is;
+          released = ap release_answer held;
           past = λ place h. ap (λ fs. oldest_octet fs place) held ∙ cond-false (ltb place (length candidate)) _ _ (le-ltb place (length candidate) (omega arith));
           stretch_past = λ place memory h. ap (λ fs. stretch_answer fs place memory) held ∙ cond-false (lies_within place (length memory) candidate) _ _ (outside place (length memory) h);
           kept_past = λ place memory h. ap (λ fs. after_stretch fs place memory) held ∙ cond-false (lies_within place (length memory) candidate) _ _ (outside place (length memory) h);
@@ -121,33 +129,15 @@ module _ (ring : Ring) where
         ap (λ fs. take (length memory) (drop place (oldest_of fs))) held
         ∙ sym (ap (λ fs. after_stretch fs place memory) held ∙ cond-true _ _ _ (within_oldest place memory h))
 
-    -- behind the oldest candidate's last cell the others begin
-    pub behind_oldest : (n place : ℕ) → n ≡ first_count used_cells → Turned (capacity_of ring) ring.first n place → BehindOldest ring n place
-    behind_oldest n place counted after =
-        let round = in_turn ring in
-        let used = ring.used in
-        let fewer : n ≤ used = omega (arith, oldest_first.within, length_used_cells) in
-        let fewer_cells : used ≤ length round = omega (arith, length_in_turn, ring.within) in
-        let on = round_from_on ring.cells.now ring.first n place (omega (arith, length_in_turn)) after in
-        let rest : take (used - n) (round_from place ring.cells.now) ≡ drop (first_count used_cells) used_cells =
-        let back : n + (used - n) ≡ used = omega arith in
-        ap (take (used - n)) on ∙ take-append-le (used - n) (drop n round) (take n round) (omega (arith, length-drop n round))
-        ∙ sym (drop-take n (used - n) round) ∙ ap (λ k. drop n (take k round)) back ∙ ap (λ k. drop k used_cells) counted in
-        let open_cells : drop (used - n) (round_from place ring.cells.now) ≡ drop used round ++ take n round =
-        let back : n + (used - n) ≡ used = omega arith in
-        ap (drop (used - n)) on ∙ drop-append-le (used - n) (drop n round) (take n round) (omega (arith, length-drop n round))
-        ∙ ap (λ l. l ++ take n round) (drop-drop (used - n) n round ∙ ap (λ k. drop k round) back) in
-        record {
-          answer = ap release_answer oldest_first.candidates;
-          within = turned_within ring.cells.now ring.first n place (omega (arith, length_in_turn)) after;
-          finished = ap (grouped (ring.waiting - 1)) rest ∙ sym (ap after_release oldest_first.candidates);
-          whole = ap (parted (ring.waiting - 1)) rest ∙ oldest_first.whole;
-          opened = ap (unfinished_in ring.unfinished) open_cells ∙ same_open ring.unfinished (drop used round) (take n round) (omega (arith, length-drop used round, length_in_turn, ring.within));
-        }
-      where
-        same_open : (unfinished : Option ℕ) (cells others : List Cell) → added unfinished ≤ length cells → unfinished_in unfinished (cells ++ others) ≡ unfinished_in unfinished cells
-        same_open None cells others h = refl
-        same_open (Some k) cells others h = ap (λ l. Some (octets_of l)) (take-append-le k cells others h)
+    pub oldest_short : length (oldest_of (finished_in ring)) ≤ 7 * 65535
+    oldest_short = omega (arith, length_oldest, oldest_first.within, length_used_cells, ring.within, ring.most)
+
+    -- what is read at last is the stretch
+    pub all_read : (place i : ℕ) (memory later : List ℕ) → length memory ≤ length (oldest_of (finished_in ring)) - place → length later ≡ length memory → length memory ≤ i →
+        take i later ≡ take i (drop place (oldest_of (finished_in ring))) → i ≤ length later → later ≡ after_stretch (finished_in ring) place memory
+    all_read place i memory later h same end read few =
+        let all : i ≡ length memory = omega arith in
+        sym (take_all i later (omega arith)) ∙ read ∙ ap (λ n. take n (drop place (oldest_of (finished_in ring)))) all ∙ stretch_read place memory h
 
   pub length_finished : ring.waiting ≡ length (finished_in ring)
   length_finished = sym (length_grouped ring.waiting used_cells)
@@ -167,3 +157,39 @@ module _ (ring : Ring) where
   turn_below place h =
       let some = some_wait ring.waiting used_cells (omega arith) in
       omega (arith, length_oldest some, (oldest_first some).within, length_used_cells, ring.within)
+
+  -- behind the oldest candidate's last cell the others begin
+  module _ (n place : ℕ) (oldest : Oldest ring n) (after : Turned (capacity_of ring) ring.first n place) where
+    on : round_from place ring.cells.now ≡ drop n (in_turn ring) ++ take n (in_turn ring)
+    on = round_from_on ring.cells.now ring.first n place (omega (arith, oldest.within, ring.within)) after
+
+    fewer : ring.used - n ≤ length (drop n (in_turn ring))
+    fewer = omega (arith, length-drop n (in_turn ring), length_in_turn, ring.within)
+
+    back : n + (ring.used - n) ≡ ring.used
+    back = omega (arith, oldest.within)
+
+    rest : take (ring.used - n) (round_from place ring.cells.now) ≡ drop (first_count used_cells) used_cells
+    rest =
+        ap (take (ring.used - n)) on ∙ take-append-le (ring.used - n) (drop n (in_turn ring)) (take n (in_turn ring)) fewer
+        ∙ sym (drop-take n (ring.used - n) (in_turn ring)) ∙ ap (λ k. drop n (take k (in_turn ring))) back ∙ ap (λ k. drop k used_cells) oldest.counted
+
+    open_cells : drop (ring.used - n) (round_from place ring.cells.now) ≡ drop ring.used (in_turn ring) ++ take n (in_turn ring)
+    open_cells =
+        ap (drop (ring.used - n)) on ∙ drop-append-le (ring.used - n) (drop n (in_turn ring)) (take n (in_turn ring)) fewer
+        ∙ ap (λ l. l ++ take n (in_turn ring)) (drop-drop (ring.used - n) n (in_turn ring) ∙ ap (λ k. drop k (in_turn ring)) back)
+
+    same_open : (unfinished : Option ℕ) (cells others : List Cell) → added unfinished ≤ length cells → unfinished_in unfinished (cells ++ others) ≡ unfinished_in unfinished cells
+    same_open None cells others h = refl
+    same_open (Some k) cells others h = ap (λ l. Some (octets_of l)) (take-append-le k cells others h)
+
+    pub finished_behind : grouped (ring.waiting - 1) (take (ring.used - n) (round_from place ring.cells.now)) ≡ after_release (finished_in ring)
+    finished_behind = ap (grouped (ring.waiting - 1)) rest ∙ sym (ap after_release (oldest_first oldest.some).candidates)
+
+    pub whole_behind : parted (ring.waiting - 1) (take (ring.used - n) (round_from place ring.cells.now)) ≡ true
+    whole_behind = ap (parted (ring.waiting - 1)) rest ∙ (oldest_first oldest.some).whole
+
+    pub open_behind : unfinished_in ring.unfinished (drop (ring.used - n) (round_from place ring.cells.now)) ≡ opened_in ring
+    open_behind =
+        ap (unfinished_in ring.unfinished) open_cells
+        ∙ same_open ring.unfinished (drop ring.used (in_turn ring)) (take n (in_turn ring)) (omega (arith, length-drop ring.used (in_turn ring), length_in_turn, ring.within))

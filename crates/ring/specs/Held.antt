@@ -67,14 +67,7 @@ pub record Oldest (ring : Ring) (codeblocks : ℕ) : Type 0 where
   pub within : codeblocks ≤ ring.used
   pub octets : length (oldest_of (finished_in ring)) ≡ 7 * codeblocks
   pub answer : oldest_length (finished_in ring) ≡ Ok (7 * codeblocks)
+  pub released : release_answer (finished_in ring) ≡ Ok tt
   pub past : (place : ℕ) → 7 * codeblocks ≤ place → oldest_octet (finished_in ring) place ≡ Err PastCandidateEnd
   pub stretch_past : (place : ℕ) (memory : List ℕ) → 7 * codeblocks - place < length memory → stretch_answer (finished_in ring) place memory ≡ Err PastCandidateEnd
   pub kept_past : (place : ℕ) (memory : List ℕ) → 7 * codeblocks - place < length memory → after_stretch (finished_in ring) place memory ≡ memory
-
--- the place behind the oldest candidate's last cell
-pub record BehindOldest (ring : Ring) (codeblocks place : ℕ) : Type 0 where
-  pub answer : release_answer (finished_in ring) ≡ Ok tt
-  pub within : place ≤ capacity_of ring
-  pub finished : grouped (ring.waiting - 1) (take (ring.used - codeblocks) (round_from place ring.cells.now)) ≡ after_release (finished_in ring)
-  pub whole : parted (ring.waiting - 1) (take (ring.used - codeblocks) (round_from place ring.cells.now)) ≡ true
-  pub opened : unfinished_in ring.unfinished (drop (ring.used - codeblocks) (round_from place ring.cells.now)) ≡ opened_in ring

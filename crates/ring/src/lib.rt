@@ -6,7 +6,7 @@ ghost use Rattle.randomizer.specs.declared.Randomizer.TheVariants.{Off};
 ghost use Rattle.circular.specs.Circle.{Turned};
 ghost use Rattle.hold.specs.Candidates.{Matches, finished_codeblocks, open_codeblocks, oldest_octet, stretch_answer, after_stretch};
 ghost use Rattle.ring.specs.Cells.{plain_showing, added};
-ghost use Rattle.ring.specs.Held.{capacity_of, finished_in, opened_in, oldest_of, shows_apart, sound_ring, NoneOpen, NoneWaits, Stored, Counted, Oldest, BehindOldest};
+ghost use Rattle.ring.specs.Held.{capacity_of, finished_in, opened_in, oldest_of, shows_apart, sound_ring, NoneOpen, NoneWaits, Stored, Counted, Oldest};
 
 use circular::place_after;
 use hold::Hold;
@@ -17,7 +17,7 @@ mod cells;
 pub use cells::{Cell, Ring};
 
 // So many that the count of a candidate's codeblocks fits its cell.
-const MOST_CELLS: usize = 65535;
+const MOST_CELLS: usize = u16::MAX as usize;
 
 impl Cell {
     /// A cell to make memory for a ring of.
@@ -31,16 +31,16 @@ impl<'a> Ring<'a> {
     /// A ring over these cells, or the first 65,535 of them where there are more, in which no candidate
     /// is open and none waits. What the cells held before does not show. It refuses nothing: with no
     /// cells at all it is a ring with no space.
+    #[tactic(auto, using(crate::proofs::Groups::shows_plainly))]
     pub fn new(cells: &'a mut [Cell]) -> Ring<'a>
         ensures capacity { capacity_of result ≡ min (length cells.old) 65535 }
         ensures finished { finished_in result ≡ [] }
         ensures opened { opened_in result ≡ absent }
         ensures matches { Matches plain_showing Off }
     {
-        shows_plainly();
         let most = cells.len().min(MOST_CELLS);
         Ring {
-            cells: &mut cells[0..most],
+            cells: &mut cells[..most],
             first: 0,
             used: 0,
             waiting: 0,
@@ -84,14 +84,6 @@ impl<'a> Ring<'a> {
         Ok(self.cells[self.place(0)].codeblocks as usize)
     }
 
-    // The place of the cell that comes after the last one of the oldest finished candidate.
-    fn behind_oldest(&self, codeblocks: usize) -> usize
-        requires { Oldest self.now codeblocks }
-        ensures { BehindOldest self.now codeblocks result }
-    {
-        self.place(codeblocks)
-    }
-
     // The octet at a place of the oldest finished candidate.
     #[tactic(auto, using(crate::proofs::Turns::turn_below, crate::proofs::Turns::octet_value, crate::proofs::Turns::octet_answered))]
     fn octet(&self, place: usize) -> u8
@@ -103,6 +95,7 @@ impl<'a> Ring<'a> {
     }
 
     // Reads a stretch of the oldest finished candidate, from a place on, into memory that is as long.
+    #[tactic(auto, using(crate::proofs::Turns::oldest_short, crate::proofs::Turns::read_more, crate::proofs::Turns::stretch_answered, crate::proofs::Turns::all_read))]
     fn read(&self, place: usize, memory: &mut [u8])
         requires { (0 < self.now.waiting) × (length memory.old ≤ length (oldest_of (finished_in self.now)) - place) }
         ensures answer { stretch_answer (finished_in self.now) place memory.old ≡ Ok tt }
@@ -186,9 +179,10 @@ impl<'a> Hold for Ring<'a> {
         Ok(())
     }
 
+    #[tactic(auto, using(crate::proofs::Turns::finished_behind, crate::proofs::Turns::whole_behind, crate::proofs::Turns::open_behind))]
     fn release(&mut self) -> Result<(), Refusal> {
         let codeblocks = self.oldest()?;
-        self.first = self.behind_oldest(codeblocks);
+        self.first = self.place(codeblocks);
         self.used -= codeblocks;
         self.waiting -= 1;
         Ok(())
@@ -228,11 +222,6 @@ impl<'a> Hold for Ring<'a> {
         Ok(())
     }
 }
-
-// An octet shows as it is added, so that a ring matches a sender that does not randomize.
-fn shows_plainly()
-    ensures { Matches plain_showing Off }
-{}
 
 #[cfg(test)]
 mod tests {
