@@ -1,6 +1,6 @@
 -- A codeblock stored behind the open candidate's cells, and a count in its first cell. Assumes nothing.
 use Rattle.std.proofs.Common.{◌≡◌, ℕ, zero, suc, ◌+◌, ◌<◌, ◌≤◌, true, false, eqb, List, [], ◌∷◌, ◌++◌, length, get_or, take, drop, set, Some, None, Ok, sym, refl, ap, ◌∙◌, ap₂, add-one, arith, take-add}
-use Rattle.std.proofs.lemmas.List.{length-drop, length-take-le, take-set-le, drop-set, drop-set-add, drop_more, take_more_set, flat_map_more}
+use Rattle.std.proofs.lemmas.List.{length-set, length-drop, length-take-le, take-set-le, drop-set, drop-set-add, drop_more, take_more_set, flat_map_more}
 use Rattle.std.proofs.lemmas.Bool.{cond-false, ne_eqb}
 use Rattle.circular.specs.Circle.{round_from, Turned}
 use Rattle.circular.proofs.Rounds.{round_from_set, get_or_turned}
@@ -8,10 +8,30 @@ use Rattle.hold.specs.Candidates.{Candidate, free_space, add_answer, after_add, 
 use Rattle.ring.specs.declared.cells.Cell.{Cell}
 use Rattle.ring.specs.declared.cells.Ring.{Ring}
 use Rattle.ring.specs.Cells.{octets_in, octets_of, first_count, grouped, parted, added, unfinished_in, plain_showing}
-use Rattle.ring.specs.Held.{in_turn, capacity_of, finished_in, opened_in}
+use Rattle.ring.specs.Held.{in_turn, capacity_of, finished_in, opened_in, Open}
 use Rattle.ring.specs.Sound.{length_octets_take}
 use Rattle.ring.proofs.Groups.{shown_plain, octets_in_seven, Behind, behind}
-use Rattle.ring.proofs.Turns.{length_in_turn, finished_is_used, open_is_added}
+use Rattle.ring.proofs.Turns.{length_in_turn, finished_is_used, open_is_added, few_wait}
+
+module _ (ring : Ring) where
+  -- a write behind the finished candidates leaves them as they are
+  finished_stay : (place turn : ℕ) (cell : Cell) → Turned (capacity_of ring) ring.first turn place → ring.used ≤ turn → turn < capacity_of ring →
+      take ring.used (round_from ring.first (set ring.cells.now place cell)) ≡ take ring.used (in_turn ring)
+  finished_stay place turn cell after past h =
+      ap (take ring.used) (round_from_set ring.cells.now ring.first turn place cell h after)
+      ∙ take-set-le ring.used (in_turn ring) turn cell past
+
+  pub finished_stays : (place turn : ℕ) (cell : Cell) → Turned (capacity_of ring) ring.first turn place → ring.used ≤ turn → turn < capacity_of ring →
+      grouped ring.waiting (take ring.used (round_from ring.first (set ring.cells.now place cell))) ≡ finished_in ring
+  finished_stays place turn cell after past h = ap (grouped ring.waiting) (finished_stay place turn cell after past h)
+
+  pub whole_stays : (place turn : ℕ) (cell : Cell) → Turned (capacity_of ring) ring.first turn place → ring.used ≤ turn → turn < capacity_of ring →
+      parted ring.waiting (take ring.used (round_from ring.first (set ring.cells.now place cell))) ≡ true
+  whole_stays place turn cell after past h = ap (parted ring.waiting) (finished_stay place turn cell after past h) ∙ ring.whole
+
+  -- and no fewer cells
+  pub same_length : (place : ℕ) (cell : Cell) → length (set ring.cells.now place cell) ≡ capacity_of ring
+  same_length place cell = length-set ring.cells.now place cell
 
 module _ (ring : Ring) (codeblocks : ℕ) (is_open : ring.unfinished ≡ Some codeblocks) where
   abbrev open_cells : List Cell
@@ -19,13 +39,6 @@ module _ (ring : Ring) (codeblocks : ℕ) (is_open : ring.unfinished ≡ Some co
 
   opened_is : opened_in ring ≡ Some (octets_of (take codeblocks open_cells))
   opened_is = ap (λ n. unfinished_in n open_cells) is_open
-
-  -- a write behind the finished candidates leaves them as they are
-  pub finished_stay : (place turn : ℕ) (cell : Cell) → ring.used ≤ turn → turn < capacity_of ring → Turned (capacity_of ring) ring.first turn place →
-      take ring.used (round_from ring.first (set ring.cells.now place cell)) ≡ take ring.used (in_turn ring)
-  finished_stay place turn cell past h after =
-      ap (take ring.used) (round_from_set ring.cells.now ring.first turn place cell h after)
-      ∙ take-set-le ring.used (in_turn ring) turn cell past
 
   module _ (room : ring.used + codeblocks < capacity_of ring) where
     some_free : eqb (free_space (capacity_of ring) (finished_in ring) (Some (octets_of (take codeblocks open_cells)))) 0 ≡ false
@@ -126,3 +139,12 @@ module _ (ring : Ring) (codeblocks : ℕ) (is_open : ring.unfinished ≡ Some co
 
       pub counted_whole : parted (ring.waiting + 1) (take (ring.used + codeblocks) (round_from ring.first (set ring.cells.now place counted_cell))) ≡ true
       counted_whole = ap₂ parted (add-one ring.waiting) all_cells ∙ last_behind.whole
+
+pub is_open : (ring : Ring) (codeblocks : ℕ) → ring.unfinished ≡ Some codeblocks → Open ring codeblocks
+is_open ring codeblocks is =
+    record {
+      is = is;
+      few = λ some. omega (arith, few_wait ring, ring.within, ring.most, ap added is);
+      answer = λ some. answered ring codeblocks is some;
+      closed = λ some. closed ring codeblocks is some;
+    }

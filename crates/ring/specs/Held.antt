@@ -1,12 +1,12 @@
 -- What a ring holds, and what its calls find and leave. Assumes nothing.
-use Rattle.std.specs.Prelude.{◌≡◌, ℕ, ◌+◌, ◌-◌, ◌*◌, ◌<◌, ◌≤◌, true, List, [], ◌∷◌, length, take, drop, Some, None, Ok, Err, Option}
+use Rattle.std.specs.Prelude.{◌≡◌, ℕ, ◌-◌, ◌*◌, ◌<◌, ◌≤◌, List, [], ◌∷◌, length, take, drop, Some, None, Ok, Err, Option}
 use Rattle.refusals.specs.declared.Refusal.{Refusal}
 use Rattle.refusals.specs.declared.Refusal.TheVariants.{NoCandidate, PastCandidateEnd, NoCandidateOpen}
-use Rattle.hold.specs.Candidates.{Candidate, Sound, ShowsApart, add_answer, after_add, finish_answer, open_after_finish, finished_after_finish, release_answer, after_release, oldest_length, oldest_octet, stretch_answer, after_stretch}
+use Rattle.hold.specs.Candidates.{Candidate, Sound, ShowsApart, finish_answer, open_after_finish, release_answer, oldest_length, oldest_octet, stretch_answer, after_stretch}
 use Rattle.circular.specs.Circle.{round_from}
 use Rattle.ring.specs.declared.cells.Cell.{Cell}
 use Rattle.ring.specs.declared.cells.Ring.{Ring}
-use Rattle.ring.specs.Cells.{first_count, grouped, parted, unfinished_in, plain_showing}
+use Rattle.ring.specs.Cells.{first_count, grouped, unfinished_in, plain_showing}
 use Rattle.ring.specs.Sound.{sound_cells}
 
 -- every cell once, those of the oldest candidate first
@@ -28,6 +28,13 @@ shows_apart = record { octets = λ place x h. h; apart = λ place x y hx hy e. e
 pub sound_ring : (ring : Ring) → Sound (capacity_of ring) (finished_in ring) (opened_in ring)
 sound_ring ring = sound_cells ring.cells.now ring.first ring.used ring.waiting ring.unfinished ring.within ring.whole ring.most
 
+-- how many codeblocks the open candidate has, and what finishing it finds unless it is empty
+pub record Open (ring : Ring) (codeblocks : ℕ) : Type 0 where
+  pub is : ring.unfinished ≡ Some codeblocks
+  pub few : 0 < codeblocks → ring.waiting < 65535
+  pub answer : 0 < codeblocks → finish_answer (opened_in ring) ≡ Ok tt
+  pub closed : 0 < codeblocks → open_after_finish (opened_in ring) ≡ None
+
 -- no candidate is open, or none waits, and what is refused for that
 pub record NoneOpen (ring : Ring) (why : Refusal) : Type 0 where
   pub reason : why ≡ NoCandidateOpen
@@ -36,24 +43,6 @@ pub record NoneOpen (ring : Ring) (why : Refusal) : Type 0 where
 pub record NoneWaits (ring : Ring) (why : Refusal) : Type 0 where
   pub reason : why ≡ NoCandidate
   pub none : finished_in ring ≡ []
-
--- what a store behind the open candidate's cells leaves
-pub record Stored (before : Ring) (codeblocks : ℕ) (octets : List ℕ) (after : Ring) : Type 0 where
-  pub answer : add_answer (capacity_of before) (finished_in before) (opened_in before) ≡ Ok tt
-  pub capacity : capacity_of after ≡ capacity_of before
-  pub used : after.used ≡ before.used
-  pub finished : finished_in after ≡ finished_in before
-  pub opened : unfinished_in (Some (codeblocks + 1)) (drop after.used (in_turn after)) ≡ after_add plain_showing (capacity_of before) (finished_in before) (opened_in before) octets
-
--- what a count in the open candidate's first cell leaves
-pub record Counted (before : Ring) (codeblocks : ℕ) (after : Ring) : Type 0 where
-  pub answer : finish_answer (opened_in before) ≡ Ok tt
-  pub capacity : capacity_of after ≡ capacity_of before
-  pub used : after.used ≡ before.used
-  pub few : after.waiting < 65535
-  pub finished : grouped (after.waiting + 1) (take (after.used + codeblocks) (in_turn after)) ≡ finished_after_finish (finished_in before) (opened_in before)
-  pub whole : parted (after.waiting + 1) (take (after.used + codeblocks) (in_turn after)) ≡ true
-  pub opened : open_after_finish (opened_in before) ≡ None
 
 -- the oldest finished candidate
 abbrev pub oldest_of : List Candidate → Candidate

@@ -6,7 +6,7 @@ ghost use Rattle.randomizer.specs.declared.Randomizer.TheVariants.{Off};
 ghost use Rattle.circular.specs.Circle.{Turned};
 ghost use Rattle.hold.specs.Candidates.{Matches, finished_codeblocks, open_codeblocks, oldest_octet, stretch_answer, after_stretch};
 ghost use Rattle.ring.specs.Cells.{plain_showing, added};
-ghost use Rattle.ring.specs.Held.{capacity_of, finished_in, opened_in, oldest_of, shows_apart, sound_ring, NoneOpen, NoneWaits, Stored, Counted, Oldest};
+ghost use Rattle.ring.specs.Held.{capacity_of, finished_in, opened_in, oldest_of, shows_apart, sound_ring, Open, NoneOpen, NoneWaits, Oldest};
 
 use circular::place_after;
 use hold::Hold;
@@ -67,8 +67,9 @@ impl<'a> Ring<'a> {
     }
 
     // How many codeblocks the open candidate has. Refused where none is open.
+    #[tactic(auto, using(crate::proofs::Writes::is_open))]
     fn unfinished(&self) -> Result<usize, Refusal>
-        ensures { MatchResult result (λ codeblocks. self.now.unfinished ≡ present codeblocks) (NoneOpen self.now) }
+        ensures { MatchResult result (Open self.now) (NoneOpen self.now) }
     {
         self.unfinished.ok_or(Refusal::NoCandidateOpen)
     }
@@ -105,29 +106,6 @@ impl<'a> Ring<'a> {
             *octet = self.octet(place + i);
         }
     }
-
-    // Puts octets into the cell behind those of the open candidate, which has so many codeblocks.
-    fn store(&mut self, codeblocks: usize, octets: [u8; 7])
-        requires { (self.old.unfinished ≡ present codeblocks) × (self.old.used + codeblocks < capacity_of self.old) }
-        ensures { Stored self.old codeblocks octets self.new }
-    {
-        let turn = self.used + codeblocks;
-        let place = self.place(turn);
-        self.cells[place] = Cell {
-            octets,
-            codeblocks: 0,
-        };
-    }
-
-    // Writes into the open candidate's first cell how many codeblocks it has.
-    fn write_count(&mut self, codeblocks: usize)
-        requires { (self.old.unfinished ≡ present codeblocks) × (0 < codeblocks) }
-        ensures { Counted self.old codeblocks self.new }
-    {
-        let turn = self.used;
-        let place = self.place(turn);
-        self.cells[place].codeblocks = codeblocks as u16;
-    }
 }
 
 impl<'a> Hold for Ring<'a> {
@@ -151,22 +129,31 @@ impl<'a> Hold for Ring<'a> {
         Ok(())
     }
 
+    #[tactic(auto, using(crate::proofs::Writes::same_length, crate::proofs::Writes::add_answered, crate::proofs::Writes::stored))]
     fn add(&mut self, octets: [u8; 7]) -> Result<(), Refusal> {
         let codeblocks = self.unfinished()?;
         if self.held() == self.cells.len() {
             return Err(Refusal::NoFreeSpace);
         }
-        self.store(codeblocks, octets);
+        let turn = self.used + codeblocks;
+        let place = self.place(turn);
+        self.cells[place] = Cell {
+            octets,
+            codeblocks: 0,
+        };
         self.unfinished = Some(codeblocks + 1);
         Ok(())
     }
 
+    #[tactic(auto, using(crate::proofs::Writes::same_length, crate::proofs::Writes::counted, crate::proofs::Writes::counted_whole, crate::proofs::Writes::first_open))]
     fn finish(&mut self) -> Result<(), Refusal> {
         let codeblocks = self.unfinished()?;
         if codeblocks == 0 {
             return Err(Refusal::CandidateEmpty);
         }
-        self.write_count(codeblocks);
+        let used = self.used;
+        let place = self.place(used);
+        self.cells[place].codeblocks = codeblocks as u16;
         self.used += codeblocks;
         self.waiting += 1;
         self.unfinished = None;
