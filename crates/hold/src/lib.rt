@@ -22,12 +22,6 @@ pub trait Hold {
     /// As which octet an octet shows that is added at a place of a candidate.
     ghost showing: { Showing };
 
-    /// The showing sends octets to octets, and no two of them to one.
-    ghost apart: { ShowsApart showing };
-
-    /// What is held is whole candidates within the capacity.
-    ghost sound: { (hold : Self) → Sound (capacity hold) (finished hold) (opened hold) };
-
     /// Begins an empty candidate. Refused with 10 while one is open.
     fn open(&mut self) -> Result<(), Refusal>
         ensures answer { result ≡ open_answer (opened self.old) }
@@ -92,6 +86,12 @@ pub trait Hold {
     fn read_oldest(&self, place: usize, memory: &mut [u8]) -> Result<(), Refusal>
         ensures answer { result ≡ stretch_answer (finished self.now) place memory.old }
         ensures memory { memory.new ≡ after_stretch (finished self.now) place memory.old };
+
+    /// The showing sends octets to octets, and no two of them to one.
+    ghost apart: { ShowsApart showing };
+
+    /// What is held is whole candidates within the capacity.
+    ghost sound: { (hold : Self) → Sound (capacity hold) (finished hold) (opened hold) };
 }
 
 /// A hold that is lent is a hold: a layer or a receiver may own it or borrow it.

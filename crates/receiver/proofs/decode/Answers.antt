@@ -11,7 +11,7 @@ returns g c =
     let rules = rules_of c.args.settings in
     let d = c.args.decoding in
     let before = held_in g.H.Hold c.args.hold.now in
-    let sound = g.H.Hold.sound c.symbol.new.hold in
+    let sound = g.met.H.Hold.sound c.symbol.new.hold in
     let few = symbol_few rules g.H.Hold.showing before d.count d.word d.corrections c.args.bit c.requires in
     let right = told_right c.symbol.result (held_in g.H.Hold c.symbol.new.hold) (at_symbol rules g.H.Hold.showing (phase_in d) before c.args.bit) c.symbol.ensures few (omega (arith, sound.within, sound.most)) in
     record { outcome = right.0; few = right.1 }
