@@ -16,13 +16,19 @@ module _ (below : Showing) where
   shown_derandomized place (x ∷ xs) = ap (λ l. below place (bit_xor x (sequence_octet place)) ∷ l) (shown_derandomized (suc place) xs)
 
   -- adding the derandomized octets below is adding the octets to the layer
-  pub added_below : (capacity : ℕ) (finished : List Candidate) (opened : Option Candidate) (octets : List ℕ) → OpenWhole opened →
+  added_below : (capacity : ℕ) (finished : List Candidate) (opened : Option Candidate) (octets : List ℕ) → OpenWhole opened →
       after_add below capacity finished opened (randomized_from On (7 * open_codeblocks opened) octets) ≡ after_add (derandomized below) capacity finished opened octets
   added_below capacity finished None octets whole = refl
   added_below capacity finished (Some candidate) octets whole =
       let place : 7 * (length candidate / 7) ≡ length candidate = omega arith in
       ap (λ l. cond (eqb (free_space capacity finished (Some candidate)) 0) (Some candidate) (Some (candidate ++ l)))
       (ap (λ n. shown_from below (length candidate) (randomized_from On n octets)) place ∙ shown_derandomized (length candidate) octets)
+
+  pub added_over : (capacity : ℕ) (finished : List Candidate) (opened after : Option Candidate) (octets under : List ℕ) (codeblocks : ℕ) →
+      after ≡ after_add below capacity finished opened under → under ≡ randomized_from On (7 * codeblocks) octets → codeblocks ≡ open_codeblocks opened → OpenWhole opened →
+      after ≡ after_add (derandomized below) capacity finished opened octets
+  added_over capacity finished opened after octets under codeblocks e added at whole =
+      e ∙ ap (after_add below capacity finished opened) (added ∙ ap (λ n. randomized_from On (7 * n) octets) at) ∙ added_below capacity finished opened octets whole
 
 -- with the sequence added to one octet more
 pub randomized_more : (place i : ℕ) (octets : List ℕ) → i < length octets →

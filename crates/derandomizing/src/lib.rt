@@ -67,7 +67,6 @@ impl<H: Hold> Hold for Derandomizing<H> {
         self.below.open()
     }
 
-    #[tactic(auto, using(crate::proofs::Shown::added_below))]
     fn add(&mut self, octets: [u8; 7]) -> Result<(), Refusal> {
         let place = 7 * self.below.open_codeblocks();
         self.below.add(derandomized(octets, place))
