@@ -1,5 +1,6 @@
 -- Cells as candidates: their octets, one more candidate behind others, and the oldest of them. Assumes nothing.
-use Rattle.std.proofs.Common.{◌≡◌, ℕ, zero, suc, ◌+◌, ◌-◌, ◌*◌, ◌/◌, ◌%◌, ◌<◌, ◌≤◌, true, leb, List, [], ◌∷◌, ◌++◌, length, get_or, take, drop, sym, refl, ap, ◌∙◌, ap₂, arith}
+use Rattle.std.proofs.Common.{◌≡◌, ℕ, zero, suc, ◌-◌, ◌*◌, ◌/◌, ◌%◌, ◌<◌, ◌≤◌, true, leb, List, [], ◌∷◌, ◌++◌, length, get_or, take, drop, sym, refl, ap, ◌∙◌, ap₂, arith}
+use Rattle.std.proofs.lemmas.Grind.{common_steps}
 use Rattle.std.proofs.lemmas.List.{length-append, length-drop, take_all, drop_all, drop_more, take-append-le, drop-append-le}
 use Rattle.std.proofs.lemmas.Bool.{and_from, le-leb, eq-eqb, eqb-true}
 use lib.Bits.{xor_zero_r}
@@ -18,12 +19,7 @@ shown_plain place [] = refl
 shown_plain place (x ∷ xs) = ap (λ l. x ∷ l) (shown_plain (suc place) xs)
 
 pub octets_in_seven : (cell : Cell) → length cell.octets ≡ 7 → octets_in cell ≡ cell.octets
-octets_in_seven cell seven =
-    let xs = cell.octets in
-    let step : (k : ℕ) → k < 7 → get_or xs k 0 ∷ drop (k + 1) xs ≡ drop k xs = λ k h. sym (drop_more xs k 0 (omega arith)) in
-    let end : [] ≡ drop 7 xs = sym (drop_all 7 xs (omega arith)) in
-    let at : (k : ℕ) (l : List ℕ) → k < 7 → l ≡ drop (k + 1) xs → get_or xs k 0 ∷ l ≡ drop k xs = λ k l h e. ap (λ r. get_or xs k 0 ∷ r) e ∙ step k h in
-    at 0 _ (omega arith) (at 1 _ (omega arith) (at 2 _ (omega arith) (at 3 _ (omega arith) (at 4 _ (omega arith) (at 5 _ (omega arith) (at 6 _ (omega arith) end))))))
+octets_in_seven cell seven = grind (arith, common_steps, drop_more, drop_all)
 
 -- the octet at a place is in the cell that comes a seventh as far
 pub get_or_octets_of : (cells : List Cell) (place : ℕ) (d : Cell) → place < 7 * length cells → get_or (octets_of cells) place 0 ≡ get_or (get_or cells (place / 7) d).octets (place % 7) 0

@@ -1,4 +1,5 @@
 -- Laws of rings. Assumes nothing.
 pub mod Groups
+pub mod Waiting
 pub mod Turns
 pub mod Writes

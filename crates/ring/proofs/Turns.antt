@@ -1,15 +1,15 @@
 -- A ring's candidates in its cells: how many codeblocks they have, and the oldest of them. Assumes nothing.
-use Rattle.std.proofs.Common.{◌≡◌, ℕ, zero, suc, ◌+◌, ◌-◌, ◌*◌, ◌/◌, ◌%◌, ◌<◌, ◌≤◌, true, false, eqb, ltb, leb, List, [], ◌∷◌, ◌++◌, length, get_or, take, drop, set, Some, None, Ok, Option, sym, refl, ap, ◌∙◌, ap₂, ⊎_elim, arith}
+use Rattle.std.proofs.Common.{◌≡◌, ℕ, zero, suc, ◌+◌, ◌-◌, ◌*◌, ◌/◌, ◌%◌, ◌<◌, ◌≤◌, true, List, [], ◌∷◌, ◌++◌, length, get_or, take, drop, set, Some, None, Ok, Option, sym, refl, ap, ◌∙◌, ap₂, arith}
 use Rattle.std.proofs.lemmas.List.{length-take-le, length-drop, get_or-take, take_all, take_more, take_more_set, get_or-drop, take-append-le, drop-append-le, drop-drop, drop-take}
-use Rattle.std.proofs.lemmas.Bool.{cases_eq, cond-true, cond-false, lt-ltb, le-ltb, le-leb, lt-leb, eq-eqb, ne_eqb, or_left, or_right, or_from}
 use Rattle.circular.specs.Circle.{round_from, Turned}
 use Rattle.circular.proofs.Rounds.{length_round_from, round_from_on, get_or_turned}
-use Rattle.hold.specs.Candidates.{finished_codeblocks, open_codeblocks, lies_within, oldest_length, oldest_octet, stretch_answer, after_stretch, after_release, release_answer}
+use Rattle.hold.specs.Candidates.{finished_codeblocks, open_codeblocks, oldest_octet, stretch_answer, after_stretch, after_release}
 use Rattle.ring.specs.declared.cells.Cell.{Cell}
 use Rattle.ring.specs.declared.cells.Ring.{Ring}
 use Rattle.ring.specs.Cells.{octets_of, first_count, grouped, parted, added, unfinished_in}
 use Rattle.ring.specs.Held.{in_turn, capacity_of, finished_in, opened_in, oldest_of, Oldest}
 use Rattle.ring.specs.Sound.{length_octets_take, finished_codeblocks_used, open_codeblocks_added}
+use Rattle.ring.proofs.Waiting.{released, whole_length, octet_inside, octet_past, stretch_inside, stretch_read, stretch_past, kept_past}
 use Rattle.ring.proofs.Groups.{get_or_octets_of, length_grouped, few_parts, First, first_of}
 
 abbrev blank : Cell
@@ -50,6 +50,9 @@ module _ (ring : Ring) where
   pub few_wait : ring.waiting ≤ ring.used
   few_wait = omega (arith, few_parts ring.waiting used_cells ring.whole, length_used_cells)
 
+  pub length_finished : ring.waiting ≡ length (finished_in ring)
+  length_finished = sym (length_grouped ring.waiting used_cells)
+
   module _ (some : 0 < ring.waiting) where
     pub oldest_first : First ring.waiting used_cells
     oldest_first = first_of ring.waiting used_cells some ring.whole
@@ -58,25 +61,23 @@ module _ (ring : Ring) where
     length_oldest =
         ap (λ fs. length (oldest_of fs)) oldest_first.candidates ∙ length_octets_take (first_count used_cells) used_cells oldest_first.within
 
+    waits : 0 < length (finished_in ring)
+    waits = omega (arith, length_finished)
+
     pub is_oldest : (n : ℕ) → n ≡ first_count used_cells → Oldest ring n
     is_oldest n counted =
-        let c = first_count used_cells in
-        let candidate = octets_of (take c used_cells) in
-        let held = oldest_first.candidates in
-        let long = length_octets_take c used_cells oldest_first.within in
-        let length_is : length candidate ≡ 7 * n = omega arith in
-        let outside : (place count : ℕ) → 7 * n - place < count → lies_within place count candidate ≡ false =
-        λ place count h. or_from (eqb count 0) (leb (place + count) (length candidate)) (ne_eqb count 0 (λ e. omega arith)) (lt-leb (place + count) (length candidate) (omega arith)) in
+        let fs = finished_in ring in
+        let octets : length (oldest_of fs) ≡ 7 * n = omega (arith, length_oldest) in
         record {
           some = some;
           counted = counted;
           within = omega (arith, oldest_first.within, length_used_cells);
-          octets = omega (arith, length_oldest);
-          answer = ap oldest_length held ∙ ap Ok length_is;
-          released = ap release_answer held;
-          past = λ place h. ap (λ fs. oldest_octet fs place) held ∙ cond-false (ltb place (length candidate)) _ _ (le-ltb place (length candidate) (omega arith));
-          stretch_past = λ place memory h. ap (λ fs. stretch_answer fs place memory) held ∙ cond-false (lies_within place (length memory) candidate) _ _ (outside place (length memory) h);
-          kept_past = λ place memory h. ap (λ fs. after_stretch fs place memory) held ∙ cond-false (lies_within place (length memory) candidate) _ _ (outside place (length memory) h);
+          octets = octets;
+          answer = whole_length fs waits ∙ ap Ok octets;
+          released = released fs waits;
+          past = λ place h. octet_past fs place waits (omega arith);
+          stretch_past = λ place memory h. stretch_past fs place memory waits (omega arith);
+          kept_past = λ place memory h. kept_past fs place memory waits (omega arith);
         }
 
     pub counted_first : (place : ℕ) → Turned (capacity_of ring) ring.first 0 place → (get_or ring.cells.now place blank).codeblocks ≡ first_count used_cells
@@ -100,34 +101,8 @@ module _ (ring : Ring) where
         ∙ sym (get_or-take c used_cells (place / 7) blank before ∙ get_or-take ring.used (in_turn ring) (place / 7) blank (omega (arith, length_used_cells))))
         ∙ sym (ap (λ fs. get_or (oldest_of fs) place 0) oldest_first.candidates ∙ get_or_octets_of (take c used_cells) place blank (omega (arith, length_oldest, length-take-le c used_cells few)))
 
-    pub octet_answer : (place : ℕ) → place < length (oldest_of (finished_in ring)) → oldest_octet (finished_in ring) place ≡ Ok (get_or (oldest_of (finished_in ring)) place 0)
-    octet_answer place h =
-        let candidate = octets_of (take (first_count used_cells) used_cells) in
-        let held = oldest_first.candidates in
-        let inside : place < length candidate = omega (arith, ap (λ fs. length (oldest_of fs)) held) in
-        ap (λ fs. oldest_octet fs place) held
-        ∙ cond-true (ltb place (length candidate)) _ _ (lt-ltb place (length candidate) inside)
-        ∙ ap Ok (sym (ap (λ fs. get_or (oldest_of fs) place 0) held))
-
-    within_oldest : (place : ℕ) (memory : List ℕ) → length memory ≤ length (oldest_of (finished_in ring)) - place → lies_within place (length memory) (octets_of (take (first_count used_cells) used_cells)) ≡ true
-    within_oldest place memory h =
-        let candidate = octets_of (take (first_count used_cells) used_cells) in
-        let count = length memory in
-        let long = ap (λ fs. length (oldest_of fs)) oldest_first.candidates in
-        ⊎_elim
-        (λ (e : count ≡ 0). or_left (eqb count 0) (leb (place + count) (length candidate)) (eq-eqb count 0 e))
-        (λ (e : count ≡ 0 → ⊥). or_right (eqb count 0) (leb (place + count) (length candidate)) (le-leb (place + count) (length candidate) (omega arith)))
-        (cases_eq count 0)
-
     pub stretch_answered : (place : ℕ) (memory : List ℕ) → length memory ≤ length (oldest_of (finished_in ring)) - place → stretch_answer (finished_in ring) place memory ≡ Ok tt
-    stretch_answered place memory h =
-        ap (λ fs. stretch_answer fs place memory) oldest_first.candidates ∙ cond-true _ _ _ (within_oldest place memory h)
-
-    pub stretch_read : (place : ℕ) (memory : List ℕ) → length memory ≤ length (oldest_of (finished_in ring)) - place → take (length memory) (drop place (oldest_of (finished_in ring))) ≡ after_stretch (finished_in ring) place memory
-    stretch_read place memory h =
-        let held = oldest_first.candidates in
-        ap (λ fs. take (length memory) (drop place (oldest_of fs))) held
-        ∙ sym (ap (λ fs. after_stretch fs place memory) held ∙ cond-true _ _ _ (within_oldest place memory h))
+    stretch_answered place memory h = stretch_inside (finished_in ring) place memory waits h
 
     pub oldest_short : length (oldest_of (finished_in ring)) ≤ 7 * 65535
     oldest_short = omega (arith, length_oldest, oldest_first.within, length_used_cells, ring.within, ring.most)
@@ -137,10 +112,7 @@ module _ (ring : Ring) where
         take i later ≡ take i (drop place (oldest_of (finished_in ring))) → i ≤ length later → later ≡ after_stretch (finished_in ring) place memory
     all_read place i memory later h same end read few =
         let all : i ≡ length memory = omega arith in
-        sym (take_all i later (omega arith)) ∙ read ∙ ap (λ n. take n (drop place (oldest_of (finished_in ring)))) all ∙ stretch_read place memory h
-
-  pub length_finished : ring.waiting ≡ length (finished_in ring)
-  length_finished = sym (length_grouped ring.waiting used_cells)
+        sym (take_all i later (omega arith)) ∙ read ∙ ap (λ n. take n (drop place (oldest_of (finished_in ring)))) all ∙ stretch_read (finished_in ring) place memory waits h
 
   pub oldest_counted : (place : ℕ) → 0 < ring.waiting → Turned (capacity_of ring) ring.first 0 place → Oldest ring (get_or ring.cells.now place blank).codeblocks
   oldest_counted place some after = is_oldest some _ (counted_first some place after)
@@ -151,7 +123,7 @@ module _ (ring : Ring) where
 
   pub octet_answered : (place cell : ℕ) → place < length (oldest_of (finished_in ring)) → Turned (capacity_of ring) ring.first (place / 7) cell →
       oldest_octet (finished_in ring) place ≡ Ok (get_or (get_or ring.cells.now cell blank).octets (place % 7) 0)
-  octet_answered place cell h after = octet_answer (some_wait ring.waiting used_cells (omega arith)) place h ∙ ap Ok (sym (octet_value place cell h after))
+  octet_answered place cell h after = octet_inside (finished_in ring) place h ∙ ap Ok (sym (octet_value place cell h after))
 
   pub turn_below : (place : ℕ) → place < length (oldest_of (finished_in ring)) → place / 7 < capacity_of ring
   turn_below place h =

@@ -1,5 +1,6 @@
 -- A codeblock stored behind the open candidate's cells, and a count in its first cell. Assumes nothing.
 use Rattle.std.proofs.Common.{◌≡◌, ℕ, zero, suc, ◌+◌, ◌<◌, ◌≤◌, true, false, eqb, List, [], ◌∷◌, ◌++◌, length, get_or, take, drop, set, Some, None, Ok, sym, refl, ap, ◌∙◌, ap₂, add-one, arith, take-add}
+use Rattle.std.proofs.lemmas.Grind.{common_steps}
 use Rattle.std.proofs.lemmas.List.{length-set, length-drop, length-take-le, take-set-le, drop-set, drop-set-add, drop_more, take_more_set, flat_map_more}
 use Rattle.std.proofs.lemmas.Bool.{cond-false, ne_eqb}
 use Rattle.circular.specs.Circle.{round_from, Turned}
@@ -12,6 +13,23 @@ use Rattle.ring.specs.Held.{in_turn, capacity_of, finished_in, opened_in, Open}
 use Rattle.ring.specs.Sound.{length_octets_take}
 use Rattle.ring.proofs.Groups.{shown_plain, octets_in_seven, Behind, behind}
 use Rattle.ring.proofs.Turns.{length_in_turn, finished_is_used, open_is_added, few_wait}
+
+-- what finishing makes of a candidate that is not empty
+finish_answered : (candidate : Candidate) → 0 < length candidate → finish_answer (Some candidate) ≡ Ok tt
+finish_answered candidate h = grind (arith, common_steps)
+
+none_open : (candidate : Candidate) → 0 < length candidate → open_after_finish (Some candidate) ≡ None
+none_open candidate h = grind (arith, common_steps)
+
+last_finished : (finished : List Candidate) (candidate : Candidate) → 0 < length candidate → finished_after_finish finished (Some candidate) ≡ finished ++ candidate ∷ []
+last_finished finished candidate h = grind (arith, common_steps)
+
+first_count_take : (n : ℕ) (cell : Cell) (cells : List Cell) → 0 < n → first_count (take n (cell ∷ cells)) ≡ cell.codeblocks
+first_count_take n cell cells h = grind (arith, common_steps)
+
+same_octets : (n : ℕ) (x y : Cell) (cells : List Cell) → octets_in x ≡ octets_in y → octets_of (take n (x ∷ cells)) ≡ octets_of (take n (y ∷ cells))
+same_octets zero x y cells e = refl
+same_octets (suc n) x y cells e = ap (λ l. l ++ octets_of (take n cells)) e
 
 module _ (ring : Ring) where
   -- a write behind the finished candidates leaves them as they are
@@ -60,27 +78,6 @@ module _ (ring : Ring) (codeblocks : ℕ) (is_open : ring.unfinished ≡ Some co
         ∙ ap Some (sym (flat_map_more octets_in [] (take codeblocks open_cells) cell)
         ∙ ap (λ l. candidate ++ l) (octets_in_seven cell seven ∙ sym (shown_plain (length candidate) cell.octets)))
         ∙ sym (ap (λ o. after_add plain_showing (capacity_of ring) (finished_in ring) o cell.octets) opened_is ∙ cond-false _ _ _ some_free)
-
-  -- what finishing makes of a candidate that is not empty
-  finish_answered : (candidate : Candidate) → 0 < length candidate → finish_answer (Some candidate) ≡ Ok tt
-  finish_answered [] h = absurd (omega arith)
-  finish_answered (x ∷ xs) h = refl
-
-  none_open : (candidate : Candidate) → 0 < length candidate → open_after_finish (Some candidate) ≡ None
-  none_open [] h = absurd (omega arith)
-  none_open (x ∷ xs) h = refl
-
-  last_finished : (finished : List Candidate) (candidate : Candidate) → 0 < length candidate → finished_after_finish finished (Some candidate) ≡ finished ++ candidate ∷ []
-  last_finished finished [] h = absurd (omega arith)
-  last_finished finished (x ∷ xs) h = refl
-
-  first_count_take : (n : ℕ) (cell : Cell) (cells : List Cell) → 0 < n → first_count (take n (cell ∷ cells)) ≡ cell.codeblocks
-  first_count_take zero cell cells h = absurd (omega arith)
-  first_count_take (suc n) cell cells h = refl
-
-  same_octets : (n : ℕ) (x y : Cell) (cells : List Cell) → octets_in x ≡ octets_in y → octets_of (take n (x ∷ cells)) ≡ octets_of (take n (y ∷ cells))
-  same_octets zero x y cells e = refl
-  same_octets (suc n) x y cells e = ap (λ l. l ++ octets_of (take n cells)) e
 
   module _ (some : 0 < codeblocks) where
     within : ring.used + codeblocks ≤ length (in_turn ring)
