@@ -192,8 +192,7 @@ fn pass_text(heap: Global, pass: PassRecord<'_>) -> Result<String, AllocError>
     ensures { IfOk result (λ s. string_bytes s ≡ pass_text (segments_in pass.entry)) }
 {
     let mut cells = [Cell::EMPTY; 37];
-    let mut ring = Ring::new(&mut cells);
-    text_over(heap, &mut ring, pass)
+    text_over(heap, Ring::new(&mut cells), pass)
 }
 
 /// The lines of a pass record: for each report its reason, its codeblocks and its corrections; behind
