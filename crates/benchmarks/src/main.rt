@@ -228,19 +228,17 @@ impl Work for Writing {
 
 /// Calls of a ring of so many cells.
 #[derive(Clone, Copy)]
-struct RingCalls {
-    cells: usize,
-}
+struct RingCalls<const CELLS: usize>;
 
-impl Work for RingCalls {
+impl<const CELLS: usize> Work for RingCalls<CELLS> {
     fn operations(&self) -> u64 {
         8_000_000
     }
 
     // A candidate of two codeblocks comes and goes: eight calls each time.
     fn checksum(&self, operations: u64, round: u64) -> u64 {
-        let mut cells = [Cell::EMPTY; MANY_CELLS];
-        let mut ring = Ring::new(&mut cells[..self.cells.min(MANY_CELLS)]);
+        let mut cells = [Cell::EMPTY; CELLS];
+        let mut ring = Ring::new(&mut cells);
         let mut checksum: u64 = round;
         for number in 0..operations / 8 {
             let _ = ring.open();
@@ -684,8 +682,8 @@ fn time_writing(rt: &(impl Print + Clock)) -> anyhow::Result<()> {
 }
 
 fn time_ring(rt: &(impl Print + Clock)) -> anyhow::Result<()> {
-    let large = RingCalls { cells: MANY_CELLS };
-    let small = RingCalls { cells: FEW_CELLS };
+    let large = RingCalls::<MANY_CELLS>;
+    let small = RingCalls::<FEW_CELLS>;
     let _ = compare(rt, "call of a ring, 8,192 cells against 8", &large, &small)?;
     let long = Copying { codeblocks: 147 };
     let short = Copying { codeblocks: 7 };

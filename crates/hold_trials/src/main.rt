@@ -10,7 +10,7 @@ use ring::{Cell, Ring};
 use std::alloc::{AllocError, AllocFailed, Global};
 use std::collections::VecDeque;
 
-/// Why the model does not do what is asked: it refuses, as a hold does, or memory is wanting.
+/// Why the model does not do what is asked: it refuses, as a hold does, or memory ran out.
 #[derive(Drop)]
 enum Failure {
     Refused(Refusal),

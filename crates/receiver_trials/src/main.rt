@@ -476,7 +476,6 @@ impl<'a, H: Hold + Drop> Bench<'a, H> {
         let mut memory = vec![in self.heap; 0u8; 1186]?;
         let octets = sender
             .write_cltu(frame, memory.as_mut_slice())
-            .ok()
             .context("a frame was refused")?;
         for octet in memory.iter().take(octets) {
             line.extend(WEIGHTS.iter().map(|weight| *octet & *weight != 0))?;
@@ -679,7 +678,6 @@ fn any_setup(numbers: &mut Numbers) -> anyhow::Result<Setup> {
     let mode = numbers.either(Mode::Correcting, Mode::Detecting);
     let randomizer = numbers.either(Randomizer::On, Randomizer::Off);
     let settings = Settings::new(mode, numbers.pick(&[1, 2, 3, 5, 8, 37, 147]))
-        .ok()
         .context("a limit was refused")?;
     Ok(Setup {
         settings,
@@ -899,9 +897,8 @@ impl<R: Print + AllocGlobal> Trials<'_, R> {
     fn recovery_bits(&mut self, limit: usize, first: bool) -> anyhow::Result<()> {
         let mut tally = Tally::NOTHING;
         let mut numbers = Numbers::new(1);
-        let settings = Settings::new(Mode::Correcting, limit)
-            .ok()
-            .context("a limit was refused")?;
+        let settings =
+            Settings::new(Mode::Correcting, limit).context("a limit was refused")?;
         let setup = Setup {
             settings,
             cells: limit,

@@ -71,6 +71,7 @@ impl Refusal {
     }
 }
 
+/// `refused` and the number.
 impl fmt::Display for Refusal {
     ghost output = { λ refusal. Some (refusal_text refusal) };
 
