@@ -227,18 +227,21 @@ impl Work for Writing {
 }
 
 /// Calls of a ring of so many cells.
+// Of the front of one array: a const parameter has no bound, and an array of so many cells might be too large.
 #[derive(Clone, Copy)]
-struct RingCalls<const CELLS: usize>;
+struct RingCalls {
+    cells: usize,
+}
 
-impl<const CELLS: usize> Work for RingCalls<CELLS> {
+impl Work for RingCalls {
     fn operations(&self) -> u64 {
         8_000_000
     }
 
     // A candidate of two codeblocks comes and goes: eight calls each time.
     fn checksum(&self, operations: u64, round: u64) -> u64 {
-        let mut cells = [Cell::EMPTY; CELLS];
-        let mut ring = Ring::new(&mut cells);
+        let mut cells = [Cell::EMPTY; MANY_CELLS];
+        let mut ring = Ring::new(&mut cells[..self.cells.min(MANY_CELLS)]);
         let mut checksum: u64 = round;
         for number in 0..operations / 8 {
             let _ = ring.open();
@@ -682,8 +685,8 @@ fn time_writing(rt: &(impl Print + Clock)) -> anyhow::Result<()> {
 }
 
 fn time_ring(rt: &(impl Print + Clock)) -> anyhow::Result<()> {
-    let large = RingCalls::<MANY_CELLS>;
-    let small = RingCalls::<FEW_CELLS>;
+    let large = RingCalls { cells: MANY_CELLS };
+    let small = RingCalls { cells: FEW_CELLS };
     let _ = compare(rt, "call of a ring, 8,192 cells against 8", &large, &small)?;
     let long = Copying { codeblocks: 147 };
     let short = Copying { codeblocks: 7 };
