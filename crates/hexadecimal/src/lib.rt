@@ -16,6 +16,7 @@ pub fn read_octets(heap: Global, text: &[u8]) -> Result<Option<Vec<u8>>, AllocEr
     let mut octets = Vec::new(heap);
     let mut left = text;
     while let [high, low, rest @ ..] = left {
+        // Text that is no octets is an answer and no error, so `?` does not serve.
         let Some(octet) = octet_value(*high, *low) else {
             return Ok(None);
         };

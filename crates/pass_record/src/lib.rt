@@ -109,6 +109,7 @@ fn is_laid_out(octets: &[u8]) -> bool
     if !ends_right(octets) {
         return false;
     }
+    // A `for` with one line of invariant, where `try_fold` would need an induction.
     let mut place = 0;
     for i in 0..told_count(octets) {
         let Some(end) = segment_end(octets, i, place) else {
@@ -240,6 +241,7 @@ impl<'a> Iterator for Segments<'a> {
 }
 
 /// The symbols of a segment, in order.
+// Not one type with `Segments`: what each gives is seen through a definition of its own.
 #[derive(Drop)]
 pub struct Bits<'a> {
     segment: Segment<'a>,

@@ -218,6 +218,7 @@ impl Model {
         Ok(())
     }
 
+    // A refusal is an answer here, which is compared as a whole with the receiver's, and no error.
     fn carrier_down(&mut self) -> Result<Result<(), Refusal>, AllocError> {
         match self.state {
             ReceiverState::Inactive => return Ok(Err(Refusal::CarrierDown)),
@@ -244,6 +245,7 @@ impl Model {
         Ok(self.reports.remove(0))
     }
 
+    // As `carrier_down`, a refusal is an answer.
     fn symbols(&mut self, symbols: &[bool]) -> Result<Result<usize, Refusal>, AllocError> {
         if self.state == ReceiverState::Inactive {
             return Ok(Err(Refusal::CarrierDown));
@@ -677,8 +679,9 @@ fn levels(heap: Global, bits: &[bool], numbers: &mut Numbers) -> Result<Vec<i8>,
 fn any_setup(numbers: &mut Numbers) -> anyhow::Result<Setup> {
     let mode = numbers.either(Mode::Correcting, Mode::Detecting);
     let randomizer = numbers.either(Randomizer::On, Randomizer::Off);
-    let settings = Settings::new(mode, numbers.pick(&[1, 2, 3, 5, 8, 37, 147]))
-        .context("a limit was refused")?;
+    let settings = Settings::new(mode, numbers.pick(&[1, 2, 3, 5, 8, 37, 147])).context(
+        "a limit was refused",
+    )?;
     Ok(Setup {
         settings,
         randomizer,
@@ -897,8 +900,7 @@ impl<R: Print + AllocGlobal> Trials<'_, R> {
     fn recovery_bits(&mut self, limit: usize, first: bool) -> anyhow::Result<()> {
         let mut tally = Tally::NOTHING;
         let mut numbers = Numbers::new(1);
-        let settings =
-            Settings::new(Mode::Correcting, limit).context("a limit was refused")?;
+        let settings = Settings::new(Mode::Correcting, limit).context("a limit was refused")?;
         let setup = Setup {
             settings,
             cells: limit,

@@ -50,6 +50,7 @@ impl Refusal {
     pub fn number(self) -> u8
         ensures { result ≡ refusal_number self }
     {
+        // Not by a cast, which an enum has only where no case has a value.
         match self {
             Refusal::FrameLength => 1,
             Refusal::MemoryTooShort => 2,
