@@ -10,6 +10,7 @@ ghost use Rattle.pass_record.specs.Reading.{number_at, unused, told_place, told_
 ghost use Rattle.pass_record.specs.Segments.{segments_in, symbols_in, segments_left, symbols_left, RefusedLayout};
 
 use refusals::Refusal;
+use std::array;
 
 mod record;
 mod segment;
@@ -38,12 +39,7 @@ fn number_at(octets: &[u8], place: usize) -> u32
     requires { place + 3 < 2 ^ 64 }
     ensures { result ≡ number_at octets.now place }
 {
-    u32::from_be_bytes([
-        octet_at(octets, place),
-        octet_at(octets, place + 1),
-        octet_at(octets, place + 2),
-        octet_at(octets, place + 3),
-    ])
+    u32::from_be_bytes(array::from_fn(|i| octet_at(octets, place + i)))
 }
 
 // How many entries there are.
