@@ -28,8 +28,11 @@ pub fn codeblocks_for(octets: usize) -> usize
     ensures value { result ≡ codeblocks_for octets }
     ensures least { LeastThatHolds octets result }
 {
-    octets / 7 + (octets % 7).min(1)
+    octets.div_ceil(7)
 }
+
+/// How many octets the longest CLTU has, that of 147 codeblocks.
+pub const LONGEST_CLTU: usize = 1186;
 
 const START_SEQUENCE: [u8; 2] = [0xEB, 0x90];
 
