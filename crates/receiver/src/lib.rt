@@ -1,7 +1,7 @@
 //! The receiver: symbols in, candidates into a hold, reports into the caller's queue.
 #![tactic(auto)]
 
-ghost use Rattle.std.specs.Prelude.{◌≡◌, ◌≤◌, true, [], ◌∷◌, length};
+ghost use Rattle.std.specs.Prelude.{◌≡◌, true, [], ◌∷◌, length};
 ghost use Rattle.hold.specs.Candidates.{oldest_length, oldest_octet, copy_answer, after_copy};
 ghost use Rattle.reception.specs.Rules.{bit_value, added, room, made, symbol, SEARCH, quietly, at_symbol};
 ghost use Rattle.reception.specs.Calls.{call_up, call_down, symbol_events, call_release, refusal, event_refusal, answered};
