@@ -166,9 +166,7 @@ pub fn syndrome(word: u64) -> (u8, u8)
 // The first of the lowest degrees whose power of X has this remainder by X^6 + X + 1.
 fn first_place(number: u8, degrees: u8) -> Option<u8>
     requires { degrees ≤ 63 }
-    ensures value { result ≡ place_from 0 degrees number }
-    ensures place { degrees ≡ 63 → IsTheWrongPlace number result }
-    ensures absent { degrees ≡ 63 → AbsentOnlyAtZero number result }
+    ensures { result ≡ place_from 0 degrees number }
 {
     let mut power: u8 = 1;
     for degree in 0..degrees {
@@ -182,6 +180,7 @@ fn first_place(number: u8, degrees: u8) -> Option<u8>
 
 /// The degree from 0 to 62 of the one wrong bit that gives a syndrome its number: the power of X
 /// that leaves this remainder. There is none for the number 0, nor for one that is no remainder.
+#[tactic(auto, using(bch::proofs::Places::is_the_wrong_place, bch::proofs::Places::absent_only_at_zero))]
 pub fn wrong_place(number: u8) -> Option<u8>
     ensures value { result ≡ wrong_place number }
     ensures place { IsTheWrongPlace number result }
@@ -207,13 +206,13 @@ fn turned(word: u64, degree: u8) -> u64
     word ^ (2 << degree)
 }
 
-fn judged(mode: Mode, word: u64, parity: u8, number: u8) -> Option<Accepted>
-    requires { parity < 2 }
-    ensures { result ≡ judged mode word parity number }
+fn judged(mode: Mode, word: u64, syndrome: (u8, u8)) -> Option<Accepted>
+    requires { syndrome.0 < 2 }
+    ensures { result ≡ judged mode word syndrome.0 syndrome.1 }
 {
-    match (mode, parity, number) {
-        (_, 0, 0) => Some(accepted(word, false)),
-        (Mode::Correcting, 1, _) => {
+    match (mode, syndrome) {
+        (_, (0, 0)) => Some(accepted(word, false)),
+        (Mode::Correcting, (1, number)) => {
             let degree = wrong_place(number)?;
             Some(accepted(turned(word, degree), true))
         }
@@ -231,6 +230,5 @@ pub fn judge(mode: Mode, word: u64) -> Option<Accepted>
     ensures two_wrong_bits { TwoWrongBitsAreRejected word result }
     ensures one_or_three { OneOrThreeWrongBitsAreDetected mode word result }
 {
-    let (parity, number) = syndrome(word);
-    judged(mode, word, parity, number)
+    judged(mode, word, syndrome(word))
 }
