@@ -2,7 +2,7 @@
 #![tactic(auto)]
 
 use bch::{Accepted, Mode};
-use cltu::{CodeblockLimit, Sender};
+use cltu::{CodeblockLimit, LONGEST_CLTU, Sender};
 use coding::{codeblock, judge};
 use command_line::{Program, Task};
 use decoding::Settings;
@@ -10,7 +10,7 @@ use hold::{Hold, copy_oldest};
 use queue::Queue;
 use randomizer::{Randomizer, sequence_octet};
 use receiver::Receiver;
-use reception::{Reason, Report};
+use reception::Report;
 use ring::{Cell, Ring};
 use searching::Symbol;
 use std::process::ExitCode;
@@ -44,19 +44,10 @@ const FEW_CELLS: usize = 8;
 /// How many octets the frame has.
 const FRAME_OCTETS: usize = 1_024;
 
-/// How many octets its CLTU has.
-const CLTU_OCTETS: usize = 1_186;
-
 /// How many symbols the pass has: idle, a CLTU of 37 codeblocks, and idle again.
 const SYMBOLS: usize = 4_096;
 
 const CLTU_BEGINS: usize = 1_000;
-
-const NO_REPORT: Report = Report {
-    reason: Reason::Empty,
-    codeblocks: 0,
-    corrections: 0,
-};
 
 /// What is measured.
 trait Work {
@@ -212,7 +203,7 @@ impl Work for Writing {
     // Writes the frame again and again, and changes an octet of it each time.
     fn checksum(&self, operations: u64, round: u64) -> u64 {
         let mut frame = [0x55u8; FRAME_OCTETS];
-        let mut memory = [0u8; CLTU_OCTETS];
+        let mut memory = [0u8; LONGEST_CLTU];
         let mut checksum: u64 = round;
         for number in 0..operations {
             let place = (number & 1_023) as usize;
@@ -328,12 +319,10 @@ fn pass_levels(round: u64) -> [i8; SYMBOLS] {
 
 /// Receives the pass again and again, so many symbols a call.
 fn received_checksum<S: Symbol>(pass: &[S], a_call: usize, operations: u64, round: u64) -> u64 {
-    let Ok(settings) = Settings::new(Mode::Correcting, 37) else {
-        return 0;
-    };
+    let settings = Settings::new(Mode::Correcting, 37).unwrap();
     let mut cells = [Cell::EMPTY; 37];
     let mut ring = Ring::new(&mut cells);
-    let mut slots = [NO_REPORT; 4];
+    let mut slots = [Report::UNUSED; 4];
     let mut queue = Queue::new(&mut slots);
     let mut receiver = Receiver::new(settings, &mut ring);
     let _ = receiver.carrier_up();
