@@ -161,8 +161,7 @@ impl<'a> Hold for Ring<'a> {
     }
 
     fn abandon(&mut self) -> Result<(), Refusal> {
-        let _ = self.unfinished_codeblocks()?;
-        self.unfinished = None;
+        self.unfinished.take().ok_or(Refusal::NoCandidateOpen)?;
         Ok(())
     }
 
