@@ -1,5 +1,5 @@
 -- A list in its turn: from a later place on, one by one, and after a write. Assumes nothing.
-use Rattle.std.proofs.Common.{◌≡◌, ℕ, ◌+◌, ◌-◌, ◌<◌, ◌≤◌, List, [], ◌++◌, length, get_or, take, drop, set, sym, ap, subst, ◌∙◌, ap₂, inl, inr, add-zero, arith, take-add}
+use Rattle.std.proofs.Common.{◌≡◌, ℕ, ◌+◌, ◌-◌, ◌<◌, ◌≤◌, List, ◌++◌, length, get_or, take, drop, set, sym, ap, subst, ◌∙◌, ap₂, inl, inr, add-zero, arith, take-add}
 use lib.Seq.{take-set-lt, take-append-add, drop-append-add}
 use Rattle.std.proofs.lemmas.List.{append_assoc, length-append, length-take, length-drop, take-append-drop, take-take, drop-drop, take-append-le, drop-append-le, get_or_append_left, get_or-drop, append-nil, take_all, drop_all, set_past, take-set-le, drop-set-lt, drop-set-add, set-append_left, set-append_right}
 use Rattle.circular.specs.Circle.{round_from, Turned}
