@@ -1,4 +1,4 @@
-//! Runs one long list of operations on a hold and on a model of it that is a plain list, and compares
+//! Runs one long list of operations on a hold and on a model of it that keeps lists, and compares
 //! every answer: over a ring that wraps many times, over the derandomizing layer, and over no cells.
 #![tactic(auto)]
 
@@ -30,7 +30,7 @@ impl<T: Drop> From<AllocFailed<T>> for Failure {
     }
 }
 
-/// What a hold should have, as plain lists.
+/// What a hold should have, as lists.
 #[derive(Drop)]
 struct Model {
     heap: Global,
