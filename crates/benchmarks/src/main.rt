@@ -94,10 +94,16 @@ fn information(number: u64) -> [u8; 7] {
     [a, b, c, d, e, f, g]
 }
 
+// Seven octets and an eighth of 0, as one number.
+fn as_number(information: [u8; 7]) -> u64 {
+    let [a, b, c, d, e, f, g] = information;
+    u64::from_be_bytes([a, b, c, d, e, f, g, 0])
+}
+
 // The rival of `codeblock`: a register of seven bits, fed with the 56 bits of information one by one.
 fn shift_register_codeblock(information: [u8; 7]) -> [u8; 8] {
     let [a, b, c, d, e, f, g] = information;
-    let mut bits = u64::from_be_bytes([a, b, c, d, e, f, g, 0]);
+    let mut bits = as_number(information);
     let mut register: u8 = 0;
     for _ in 0..56u8 {
         let bit = ((bits >> 63) & 1) as u8;
@@ -155,14 +161,12 @@ impl Work for ShiftRegister {
 #[derive(Clone, Copy)]
 struct Judging {
     wrong: u64,
+    operations: u64,
 }
 
 impl Work for Judging {
     fn operations(&self) -> u64 {
-        match self.wrong {
-            0 | 2 => 6_000_000,
-            _ => 1_000_000,
-        }
+        self.operations
     }
 
     // Judges 1,000 codeblocks, made beforehand, again and again.
@@ -182,11 +186,7 @@ impl Work for Judging {
 }
 
 fn judged_number(verdict: Option<Accepted>) -> u64 {
-    let Some(accepted) = verdict else {
-        return 1;
-    };
-    let [a, b, c, d, e, f, g] = accepted.information;
-    u64::from_be_bytes([a, b, c, d, e, f, g, 0])
+    verdict.map_or(1, |accepted| as_number(accepted.information))
 }
 
 /// CLTUs of a frame of 1,024 octets.
@@ -627,9 +627,18 @@ fn time_codeblock(rt: &(impl Print + Clock)) -> anyhow::Result<()> {
 }
 
 fn time_verdict(rt: &(impl Print + Clock)) -> anyhow::Result<()> {
-    let undamaged = Judging { wrong: 0 };
-    let lowest = Judging { wrong: 2 };
-    let highest = Judging { wrong: 1 << 63 };
+    let undamaged = Judging {
+        wrong: 0,
+        operations: 6_000_000,
+    };
+    let lowest = Judging {
+        wrong: 2,
+        operations: 6_000_000,
+    };
+    let highest = Judging {
+        wrong: 1 << 63,
+        operations: 1_000_000,
+    };
     let _ = compare(
         rt,
         "verdict, wrong bit at degree 0 against undamaged",
