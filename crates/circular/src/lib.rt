@@ -1,7 +1,8 @@
 //! Places in a circle: after the last comes the first.
 #![tactic(auto)]
 
-ghost use Rattle.std.specs.Prelude.{◌≡◌, ℕ, ◌<◌, ◌≤◌, List, length, slice_get, slice_set};
+ghost use Rattle.std.specs.Prelude.{◌≡◌, ℕ, ◌<◌, ◌≤◌, List, length, IsSome, slice_get, slice_set};
+ghost use Rattle.std.specs.Option.{option_copied};
 ghost use Rattle.circular.specs.Circle.{round_from, Turned};
 ghost use Rattle.circular.specs.Turns.{in_turn};
 
@@ -43,15 +44,17 @@ impl<'a, T: Copy> Circle<'a, T> {
         self.cells.len()
     }
 
-    /// What the cell holds whose turn this is. `None` past the last.
+    /// The cell whose turn this is. `None` past the last.
     #[tactic(auto, using(crate::proofs::Rounds::length_round_from))]
-    pub fn get(&self, turn: usize) -> Option<T>
-        ensures { result ≡ slice_get (in_turn self.now) turn }
+    pub fn get(&self, turn: usize) -> Option<&T>
+        ensures value { option_copied result ≡ slice_get (in_turn self.now) turn }
+        ensures there { turn < length (in_turn self.now) → IsSome result }
     {
-        if turn >= self.cells.len() {
+        let cells: &[T] = self.cells;
+        if turn >= cells.len() {
             return None;
         }
-        Some(self.cells[place_after(self.cells.len(), self.first, turn)])
+        Some(&cells[place_after(cells.len(), self.first, turn)])
     }
 
     /// Puts a value into the cell whose turn this is. A turn past the last changes nothing.

@@ -65,7 +65,7 @@ impl<'a, T: Copy> Queue<'a, T> {
         if self.count == 0 {
             return Err(Refusal::QueueEmpty);
         }
-        let oldest = self.slots.get(0).unwrap();
+        let oldest = *self.slots.get(0).unwrap();
         self.slots.advance(1);
         self.count -= 1;
         Ok(oldest)

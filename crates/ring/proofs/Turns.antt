@@ -1,10 +1,9 @@
 -- A ring's candidates in its cells: how many codeblocks they have, and the oldest of them. Assumes nothing.
-use Rattle.std.proofs.Common.{◌≡◌, ℕ, zero, suc, ◌+◌, ◌-◌, ◌*◌, ◌/◌, ◌%◌, ◌<◌, ◌≤◌, true, List, [], ◌∷◌, ◌++◌, length, get_or, take, drop, set, slice_get, Some, None, Ok, Option, sym, refl, ap, subst, ◌∙◌, ap₂, arith}
+use Rattle.std.proofs.Common.{◌≡◌, ℕ, zero, suc, ◌+◌, ◌-◌, ◌*◌, ◌/◌, ◌%◌, ◌<◌, ◌≤◌, true, List, [], ◌∷◌, ◌++◌, length, get_or, take, drop, set, slice_get, Some, None, Ok, Option, sym, refl, ap, ◌∙◌, ap₂, arith}
 use Rattle.std.proofs.lemmas.List.{length-take-le, length-drop, get_or-take, take_all, take_more, take_more_set, get_or-drop, take-append-le, drop-append-le, drop-drop, drop-take}
 use Rattle.circular.specs.Circle.{round_from}
 use Rattle.circular.proofs.Rounds.{length_round_from}
-use Rattle.std.specs.Option.{IsSome}
-use Rattle.std.proofs.lemmas.Option.{get_or_from_slice_get, slice_get-get_or}
+use Rattle.std.proofs.lemmas.Option.{get_or_from_slice_get}
 use Rattle.hold.specs.Candidates.{finished_codeblocks, open_codeblocks, oldest_octet, stretch_answer, after_stretch, after_release}
 use Rattle.ring.specs.declared.cells.Cell.{Cell}
 use Rattle.ring.specs.declared.cells.Ring.{Ring}
@@ -129,9 +128,6 @@ module _ (ring : Ring) where
   turn_below place h =
       let some = some_wait ring.waiting used_cells (omega arith) in
       omega (arith, length_oldest some, (oldest_first some).within, length_used_cells, ring.within)
-
-  pub cell_there : (place : ℕ) → place < length (oldest_of (finished_in ring)) → IsSome (slice_get (in_turn ring) (place / 7))
-  cell_there place h = subst IsSome (sym (slice_get-get_or (in_turn ring) (place / 7) blank (turn_below place h))) refl
 
   -- behind the oldest candidate's last cell the others begin
   module _ (n : ℕ) (oldest : Oldest ring n) where

@@ -76,7 +76,7 @@ impl<'a> Ring<'a> {
     }
 
     // The octet at a place of the oldest finished candidate.
-    #[tactic(auto, using(crate::proofs::Turns::cell_there, crate::proofs::Turns::octet_value, crate::proofs::Turns::octet_answered))]
+    #[tactic(auto, using(crate::proofs::Turns::turn_below, crate::proofs::Turns::octet_value, crate::proofs::Turns::octet_answered))]
     fn octet(&self, place: usize) -> u8
         requires { place < length (oldest_of (finished_in self.now)) }
         ensures value { result ≡ slice_index (oldest_of (finished_in self.now)) place }
@@ -140,7 +140,7 @@ impl<'a> Hold for Ring<'a> {
         if codeblocks == 0 {
             return Err(Refusal::CandidateEmpty);
         }
-        let mut cell = self.cells.get(self.used).unwrap();
+        let mut cell = *self.cells.get(self.used).unwrap();
         cell.codeblocks = codeblocks as u16;
         self.cells.set(self.used, cell);
         self.used += codeblocks;
