@@ -55,7 +55,7 @@ def point_1():
         out += [(p, n, f"struct {name}: {line.strip()}") for line in body if re.search(r"\b\w+: bool,", line)]
     for p, lines in SOURCES.items():
         for n, (line, after) in enumerate(itertools.pairwise(lines), 1):
-            if re.search(r"(let .* else|is_none\(\).*|is_some\(\).*) \{$", line) and re.search(r"return .*(Err|false|None)", after):
+            if re.search(r"(let .* else|is_none\(\).*|is_some\(\).*) \{$", line) and re.search(r"return .*(Err|false|None|0;)", after):
                 out.append((p, n, f"{line.strip()} {after.strip()}"))
     return out + found(r"\bErr\((\w+)\) => Err\(\1\)|Ok\(_\) => Ok|Err\(_\) => [^{]*,|-> Result<Result")
 
@@ -107,12 +107,12 @@ def point_6():
         text = "\n".join(body)
         if re.search(rf"\b({COUNT}): (usize|u8|u16|Option<usize>),", text) and re.search(r": (&'a (mut )?)?\[|: u64,|bits: u16,", text):
             out.append((p, n, f"struct {name}"))
-    return out + found(r"\w+\[0\.\.\w+\]|\.take\(octets\)|\.get\(0\.\.")
+    return out + found(r"\w+\[0?\.\.\w+\]|\.take\(octets\)|\.get\(0\.\.")
 
 
 def point_7():
     """Matches on what is to be run."""
-    return found(r"\bmatch (trial|work|task|asked_task\(rt\)\?|self\.setup\.feed|numbers\.\w+\(.*\)( % 16)?) \{") + [
+    return found(r"\bmatch (trial|work|task|asked_task\(rt\)\?|self\.setup\.feed|(self\.)?numbers\.\w+\(.*\)( % 16)?) \{") + [
         (p, n, f"fn {name}") for p, n, name, _, body in functions() if re.search(r"match self \{\n\s+Work::", body)]
 
 

@@ -2,7 +2,7 @@
 #![tactic(auto)]
 
 use bch::{Accepted, Mode};
-use cltu::{CodeblockLimit, Sender};
+use cltu::{CodeblockLimit, LONGEST_CLTU, Sender};
 use coding::{codeblock, judge};
 use command_line::{Program, Task};
 use decoding::Settings;
@@ -10,7 +10,7 @@ use hold::{Hold, copy_oldest};
 use queue::Queue;
 use randomizer::{Randomizer, sequence_octet};
 use receiver::Receiver;
-use reception::{Reason, Report};
+use reception::Report;
 use ring::{Cell, Ring};
 use searching::Symbol;
 use std::process::ExitCode;
@@ -44,19 +44,10 @@ const FEW_CELLS: usize = 8;
 /// How many octets the frame has.
 const FRAME_OCTETS: usize = 1_024;
 
-/// How many octets its CLTU has.
-const CLTU_OCTETS: usize = 1_186;
-
 /// How many symbols the pass has: idle, a CLTU of 37 codeblocks, and idle again.
 const SYMBOLS: usize = 4_096;
 
 const CLTU_BEGINS: usize = 1_000;
-
-const NO_REPORT: Report = Report {
-    reason: Reason::Empty,
-    codeblocks: 0,
-    corrections: 0,
-};
 
 /// What is measured.
 trait Work {
@@ -103,10 +94,16 @@ fn information(number: u64) -> [u8; 7] {
     [a, b, c, d, e, f, g]
 }
 
+// Seven octets and an eighth of 0, as one number.
+fn as_number(information: [u8; 7]) -> u64 {
+    let [a, b, c, d, e, f, g] = information;
+    u64::from_be_bytes([a, b, c, d, e, f, g, 0])
+}
+
 // The rival of `codeblock`: a register of seven bits, fed with the 56 bits of information one by one.
 fn shift_register_codeblock(information: [u8; 7]) -> [u8; 8] {
     let [a, b, c, d, e, f, g] = information;
-    let mut bits = u64::from_be_bytes([a, b, c, d, e, f, g, 0]);
+    let mut bits = as_number(information);
     let mut register: u8 = 0;
     for _ in 0..56u8 {
         let bit = ((bits >> 63) & 1) as u8;
@@ -164,14 +161,12 @@ impl Work for ShiftRegister {
 #[derive(Clone, Copy)]
 struct Judging {
     wrong: u64,
+    operations: u64,
 }
 
 impl Work for Judging {
     fn operations(&self) -> u64 {
-        match self.wrong {
-            0 | 2 => 6_000_000,
-            _ => 1_000_000,
-        }
+        self.operations
     }
 
     // Judges 1,000 codeblocks, made beforehand, again and again.
@@ -191,11 +186,7 @@ impl Work for Judging {
 }
 
 fn judged_number(verdict: Option<Accepted>) -> u64 {
-    let Some(accepted) = verdict else {
-        return 1;
-    };
-    let [a, b, c, d, e, f, g] = accepted.information;
-    u64::from_be_bytes([a, b, c, d, e, f, g, 0])
+    verdict.map_or(1, |accepted| as_number(accepted.information))
 }
 
 /// CLTUs of a frame of 1,024 octets.
@@ -212,7 +203,7 @@ impl Work for Writing {
     // Writes the frame again and again, and changes an octet of it each time.
     fn checksum(&self, operations: u64, round: u64) -> u64 {
         let mut frame = [0x55u8; FRAME_OCTETS];
-        let mut memory = [0u8; CLTU_OCTETS];
+        let mut memory = [0u8; LONGEST_CLTU];
         let mut checksum: u64 = round;
         for number in 0..operations {
             let place = (number & 1_023) as usize;
@@ -328,12 +319,10 @@ fn pass_levels(round: u64) -> [i8; SYMBOLS] {
 
 /// Receives the pass again and again, so many symbols a call.
 fn received_checksum<S: Symbol>(pass: &[S], a_call: usize, operations: u64, round: u64) -> u64 {
-    let Ok(settings) = Settings::new(Mode::Correcting, 37) else {
-        return 0;
-    };
+    let settings = Settings::new(Mode::Correcting, 37).unwrap();
     let mut cells = [Cell::EMPTY; 37];
     let mut ring = Ring::new(&mut cells);
-    let mut slots = [NO_REPORT; 4];
+    let mut slots = [Report::UNUSED; 4];
     let mut queue = Queue::new(&mut slots);
     let mut receiver = Receiver::new(settings, &mut ring);
     let _ = receiver.carrier_up();
@@ -638,9 +627,18 @@ fn time_codeblock(rt: &(impl Print + Clock)) -> anyhow::Result<()> {
 }
 
 fn time_verdict(rt: &(impl Print + Clock)) -> anyhow::Result<()> {
-    let undamaged = Judging { wrong: 0 };
-    let lowest = Judging { wrong: 2 };
-    let highest = Judging { wrong: 1 << 63 };
+    let undamaged = Judging {
+        wrong: 0,
+        operations: 6_000_000,
+    };
+    let lowest = Judging {
+        wrong: 2,
+        operations: 6_000_000,
+    };
+    let highest = Judging {
+        wrong: 1 << 63,
+        operations: 1_000_000,
+    };
     let _ = compare(
         rt,
         "verdict, wrong bit at degree 0 against undamaged",

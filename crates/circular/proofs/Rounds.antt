@@ -1,7 +1,7 @@
 -- A list in its turn: from a later place on, one by one, and after a write. Assumes nothing.
 use Rattle.std.proofs.Common.{◌≡◌, ℕ, ◌+◌, ◌-◌, ◌<◌, ◌≤◌, List, ◌++◌, length, get_or, take, drop, set, sym, ap, subst, ◌∙◌, ap₂, inl, inr, add-zero, arith, take-add}
 use lib.Seq.{take-set-lt, take-append-add, drop-append-add}
-use Rattle.std.proofs.lemmas.List.{append_assoc, length-append, length-take, length-drop, take-append-drop, take-take, drop-drop, take-append-le, drop-append-le, get_or_append_left, get_or-drop, take-set-le, drop-set-lt, drop-set-add, set-append_left, set-append_right}
+use Rattle.std.proofs.lemmas.List.{append_assoc, length-append, length-take, length-drop, take-append-drop, take-take, drop-drop, take-append-le, drop-append-le, get_or_append_left, get_or-drop, append-nil, take_all, drop_all, set_past, take-set-le, drop-set-lt, drop-set-add, set-append_left, set-append_right}
 use Rattle.circular.specs.Circle.{round_from, Turned}
 
 module _ {X : Type 0} (xs : List X) (first : ℕ) where
@@ -60,3 +60,16 @@ module _ {X : Type 0} (xs : List X) (first : ℕ) where
 -- the same where as many places are given as the list has
 pub round_at : (places first turn place : ℕ) → Turned places first turn place → (xs : List ℕ) → length xs ≡ places → turn ≤ places → round_from place xs ≡ round_from turn (round_from first xs)
 round_at places first turn place turned xs e h = round_from_on xs first turn place (omega arith) (subst (λ n. Turned n first turn place) (sym e) turned)
+
+module _ {X : Type 0} (xs : List X) where
+  pub round_from_start : round_from 0 xs ≡ xs
+  round_from_start = append-nil xs
+
+  pub past : (first turn : ℕ) (x : X) → length xs ≤ turn → set (round_from first xs) turn x ≡ round_from first xs
+  past first turn x h = set_past (round_from first xs) turn x (omega (arith, length_round_from xs first))
+
+  pub past_all : (first turns : ℕ) → length xs ≤ turns → round_from turns (round_from first xs) ≡ round_from first xs
+  past_all first turns h =
+      let round = round_from first xs in
+      let long = length_round_from xs first in
+      ap₂ ◌++◌ (drop_all turns round (omega (arith, long))) (take_all turns round (omega (arith, long)))

@@ -1,16 +1,16 @@
 //! Writing a frame as a CLTU into the caller's memory.
 #![tactic(auto)]
 
-ghost use Rattle.std.specs.Prelude.{◌≡◌};
-ghost use Rattle.cltu.specs.Cltu.{codeblocks_for, LeastThatHolds};
+ghost use Rattle.std.specs.Prelude.{◌≡◌, ◌+◌, ◌*◌, ◌<◌, ◌≤◌, length, take, drop, slice_index};
+ghost use Rattle.randomizer.specs.Sequence.{randomized};
+ghost use Rattle.cltu.specs.Cltu.{codeblocks_for, LeastThatHolds, filled, coded, cltu};
 ghost use Rattle.cltu.specs.Writing.{frame_refused, writing_answer, memory_after};
 
-use outgoing::Outgoing;
+use coding::codeblock;
 use randomizer::Randomizer;
 use refusals::Refusal;
 
 mod limit;
-mod outgoing;
 
 pub use limit::CodeblockLimit;
 
@@ -28,7 +28,99 @@ pub fn codeblocks_for(octets: usize) -> usize
     ensures value { result ≡ codeblocks_for octets }
     ensures least { LeastThatHolds octets result }
 {
-    octets / 7 + (octets % 7).min(1)
+    octets.div_ceil(7)
+}
+
+/// How many octets the longest CLTU has, that of 147 codeblocks.
+pub const LONGEST_CLTU: usize = 1186;
+
+const START_SEQUENCE: [u8; 2] = [0xEB, 0x90];
+
+const TAIL_SEQUENCE: [u8; 8] = [0xC5, 0xC5, 0xC5, 0xC5, 0xC5, 0xC5, 0xC5, 0x79];
+
+const FILL: u8 = 0x55;
+
+/// A frame that a sender takes, and how many codeblocks its CLTU has.
+#[derive(Clone, Copy)]
+struct Outgoing<'a> {
+    frame: &'a [u8],
+    randomizer: Randomizer,
+    // How many codeblocks hold the frame.
+    codeblocks: usize,
+    ghost short: { length frame.now ≤ 1024 },
+    ghost whole: { codeblocks ≡ codeblocks_for (length frame.now) },
+}
+
+impl<'a> Outgoing<'a> {
+    fn new(frame: &'a [u8], randomizer: Randomizer) -> Self
+        requires { length frame.now ≤ 1024 }
+        ensures frame { result.frame.now ≡ frame.now }
+        ensures randomizer { result.randomizer ≡ randomizer }
+    {
+        Outgoing {
+            frame,
+            randomizer,
+            codeblocks: codeblocks_for(frame.len()),
+        }
+    }
+
+    /// How many octets the CLTU has.
+    fn cltu_octets(&self) -> usize
+        ensures length { result ≡ length (cltu self.now.randomizer self.now.frame.now) }
+        ensures number { result ≡ 10 + 8 * self.now.codeblocks }
+    {
+        START_SEQUENCE.len() + 8 * self.codeblocks + TAIL_SEQUENCE.len()
+    }
+
+    // The octet at a place of the filled and randomized frame.
+    fn octet(&self, place: usize) -> u8
+        requires { place < 7 * self.now.codeblocks }
+        ensures { result ≡ slice_index (randomized self.now.randomizer (filled self.now.frame.now)) place }
+    {
+        self.frame.get(place).copied().unwrap_or(FILL) ^ self.randomizer.octet_at(place)
+    }
+
+    // The information of the codeblock at an index: seven octets of the filled and randomized frame.
+    fn information(&self, index: usize) -> [u8; 7]
+        requires { index < self.now.codeblocks }
+        ensures { result ≡ take 7 (drop (7 * index) (randomized self.now.randomizer (filled self.now.frame.now))) }
+    {
+        // Written out: by `array::from_fn` a frame takes some 4 in a hundred longer to write.
+        let first = 7 * index;
+        [
+            self.octet(first),
+            self.octet(first + 1),
+            self.octet(first + 2),
+            self.octet(first + 3),
+            self.octet(first + 4),
+            self.octet(first + 5),
+            self.octet(first + 6),
+        ]
+    }
+
+    // Puts the codeblocks into memory for just these.
+    fn put_codeblocks(&self, memory: &mut [u8])
+        requires { length memory.old ≡ 8 * self.now.codeblocks }
+        ensures { memory.new ≡ coded self.now.codeblocks (randomized self.now.randomizer (filled self.now.frame.now)) }
+    {
+        // By index: after a loop over `chunks_exact_mut` the checker knows of no octet that it wrote.
+        for index in 0..self.codeblocks {
+            let at = 8 * index;
+            memory[at..at + 8].copy_from_slice(&codeblock(self.information(index)));
+        }
+    }
+
+    /// Puts the CLTU into memory for just it.
+    fn put_cltu(&self, memory: &mut [u8])
+        requires { length memory.old ≡ 10 + 8 * self.now.codeblocks }
+        ensures { memory.new ≡ cltu self.now.randomizer self.now.frame.now }
+    {
+        let (start, rest) = memory.split_at_mut(START_SEQUENCE.len());
+        let (codeblocks, tail) = rest.split_at_mut(8 * self.codeblocks);
+        start.copy_from_slice(&START_SEQUENCE);
+        self.put_codeblocks(codeblocks);
+        tail.copy_from_slice(&TAIL_SEQUENCE);
+    }
 }
 
 impl Sender {

@@ -2,17 +2,66 @@
 //! 64 bits, the first bit received its highest.
 #![tactic(auto)]
 
-ghost use Rattle.std.specs.Prelude.{◌≡◌, ◌*◌, ◌/◌, ◌%◌, ◌^◌, ◌<◌, ◌≤◌, Some, [], ◌∷◌, ◌++◌};
+ghost use Rattle.std.specs.Prelude.{◌≡◌, ℕ, ◌*◌, ◌/◌, ◌%◌, ◌^◌, ◌<◌, ◌≤◌, Some, [], ◌∷◌, ◌++◌};
 ghost use Rattle.std.specs.Int.Digits.{number_from_digits};
-ghost use Rattle.bch.specs.Polynomial.{remainder as remainder_by, DivisionLeavesTheRemainder};
-ghost use Rattle.bch.specs.Codeblock.{generator, check_bits, codeblock, information_of};
+ghost use Rattle.bch.specs.Polynomial.{◌⊕◌, weight, remainder as remainder_by, DivisionLeavesTheRemainder};
+ghost use Rattle.bch.specs.Codeblock.{generator, complemented, check_bits, codeblock, information_of};
 ghost use Rattle.bch.specs.Reception.{syndrome_polynomial, received, syndrome, place_from, wrong_place, turned, accepted, judged, verdict};
 ghost use Rattle.bch.specs.Laws.{IsTheWrongPlace, AbsentOnlyAtZero, UndamagedIsAccepted, OneWrongBitIsCorrected, TwoWrongBitsAreRejected, OneOrThreeWrongBitsAreDetected};
 
 use bch::{Accepted, Mode};
-use coefficients::Coefficients;
 
-mod coefficients;
+// The seven coefficients of a polynomial of degree at most 6, that of X^6 highest.
+#[derive(Clone, Copy)]
+struct Coefficients {
+    bits: u8,
+    ghost seven: { bits < 2 ^ 7 },
+}
+
+impl Coefficients {
+    fn plus(self, other: Coefficients) -> Coefficients
+        ensures { result.bits ≡ self.bits ⊕ other.bits }
+    {
+        Coefficients {
+            bits: self.bits ^ other.bits,
+        }
+    }
+
+    fn complemented(self) -> Coefficients
+        ensures { result.bits ≡ complemented self.bits }
+    {
+        Coefficients {
+            bits: self.bits ^ 0x7F,
+        }
+    }
+
+    // As the bits of an octet whose last bit is a filler 0.
+    fn with_filler(self) -> u8
+        ensures { result ≡ 2 * self.bits }
+    {
+        self.bits << 1
+    }
+
+    // The parity of every polynomial that has this remainder by the generator, which has X + 1 as a factor.
+    fn parity(self) -> u8
+        ensures { (p : ℕ) → p < 2 ^ 63 → self.bits ≡ remainder_by generator 7 p → result ≡ weight 63 p % 2 }
+    {
+        (self.bits.count_ones() & 1) as u8
+    }
+
+    // The remainder by X^6 + X + 1, which is that of every polynomial that has this remainder by the
+    // generator, of which X^6 + X + 1 is a factor.
+    fn reduced(self) -> u8
+        ensures value { result ≡ remainder_by syndrome_polynomial 6 self.bits }
+        ensures number { (p : ℕ) → p < 2 ^ 63 → self.bits ≡ remainder_by generator 7 p → result ≡ remainder_by syndrome_polynomial 6 p }
+    {
+        if self.bits < 0x40 {
+            self.bits
+        } else {
+            self.bits ^ 0x43
+        }
+    }
+}
 
 // The remainder of X^7 · v(X) by X^7 + X^6 + X^2 + 1, for each octet v.
 const REMAINDERS: [u8; 256] = *b"\
@@ -117,9 +166,7 @@ pub fn syndrome(word: u64) -> (u8, u8)
 // The first of the lowest degrees whose power of X has this remainder by X^6 + X + 1.
 fn first_place(number: u8, degrees: u8) -> Option<u8>
     requires { degrees ≤ 63 }
-    ensures value { result ≡ place_from 0 degrees number }
-    ensures place { degrees ≡ 63 → IsTheWrongPlace number result }
-    ensures absent { degrees ≡ 63 → AbsentOnlyAtZero number result }
+    ensures { result ≡ place_from 0 degrees number }
 {
     let mut power: u8 = 1;
     for degree in 0..degrees {
@@ -133,6 +180,7 @@ fn first_place(number: u8, degrees: u8) -> Option<u8>
 
 /// The degree from 0 to 62 of the one wrong bit that gives a syndrome its number: the power of X
 /// that leaves this remainder. There is none for the number 0, nor for one that is no remainder.
+#[tactic(auto, using(bch::proofs::Places::is_the_wrong_place, bch::proofs::Places::absent_only_at_zero))]
 pub fn wrong_place(number: u8) -> Option<u8>
     ensures value { result ≡ wrong_place number }
     ensures place { IsTheWrongPlace number result }
@@ -158,13 +206,13 @@ fn turned(word: u64, degree: u8) -> u64
     word ^ (2 << degree)
 }
 
-fn judged(mode: Mode, word: u64, parity: u8, number: u8) -> Option<Accepted>
-    requires { parity < 2 }
-    ensures { result ≡ judged mode word parity number }
+fn judged(mode: Mode, word: u64, syndrome: (u8, u8)) -> Option<Accepted>
+    requires { syndrome.0 < 2 }
+    ensures { result ≡ judged mode word syndrome.0 syndrome.1 }
 {
-    match (mode, parity, number) {
-        (_, 0, 0) => Some(accepted(word, false)),
-        (Mode::Correcting, 1, _) => {
+    match (mode, syndrome) {
+        (_, (0, 0)) => Some(accepted(word, false)),
+        (Mode::Correcting, (1, number)) => {
             let degree = wrong_place(number)?;
             Some(accepted(turned(word, degree), true))
         }
@@ -182,6 +230,5 @@ pub fn judge(mode: Mode, word: u64) -> Option<Accepted>
     ensures two_wrong_bits { TwoWrongBitsAreRejected word result }
     ensures one_or_three { OneOrThreeWrongBitsAreDetected mode word result }
 {
-    let (parity, number) = syndrome(word);
-    judged(mode, word, parity, number)
+    judged(mode, word, syndrome(word))
 }

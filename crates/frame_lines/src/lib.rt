@@ -5,14 +5,11 @@ ghost use Rattle.std.specs.Prelude.{IfOk, Some};
 ghost use Rattle.hexadecimal.specs.Text.{octets_written};
 ghost use Rattle.frame_lines.specs.Lines.{Answers, answer_text};
 
-use cltu::{Sender, codeblocks_for};
+use cltu::{LONGEST_CLTU, Sender, codeblocks_for};
 use hexadecimal::{capitals, read_octets};
 use refusals::Refusal;
 use std::alloc::{AllocError, Global};
 use std::fmt;
-
-// The octets of the longest CLTU, that of 147 codeblocks.
-const LONGEST: usize = 1186;
 
 /// The answer to a line. It prints as a line, without its end.
 #[derive(Debug, Drop)]
@@ -54,7 +51,7 @@ impl fmt::Display for Answer {
 fn frame_answer(heap: Global, sender: Sender, frame: &[u8]) -> Result<Answer, AllocError>
     ensures { IfOk result (λ a. Answers sender (Some frame.now) a) }
 {
-    let mut memory = [0u8; LONGEST];
+    let mut memory = [0u8; LONGEST_CLTU];
     match sender.write_cltu(frame, &mut memory) {
         Ok(octets) => {
             let codeblocks = codeblocks_for(frame.len());

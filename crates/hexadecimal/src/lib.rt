@@ -23,15 +23,12 @@ pub fn read_octets(heap: Global, text: &[u8]) -> Result<Option<Vec<u8>>, AllocEr
         octets.push(octet)?;
         left = rest;
     }
-    if left.is_empty() {
-        Ok(Some(octets))
-    } else {
-        Ok(None)
-    }
+    Ok(left.is_empty().then_some(octets))
 }
 
 /// The text of octets, two hexadecimal digits each, the high digit first, in capitals.
 /// Octets in these digits read back as the same octets.
+#[tactic(auto, using(crate::proofs::ReadBack::read_back))]
 pub fn capitals(heap: Global, octets: &[u8]) -> Result<String, AllocError>
     ensures digits { IfOk result (λ s. string_bytes s ≡ capital_digits octets.now) }
     ensures reads_back { CapitalsReadBack }

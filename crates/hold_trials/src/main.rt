@@ -1,4 +1,4 @@
-//! Runs one long list of operations on a hold and on a model of it that is a plain list, and compares
+//! Runs one long list of operations on a hold and on a model of it that keeps lists, and compares
 //! every answer: over a ring that wraps many times, over the derandomizing layer, and over no cells.
 #![tactic(auto)]
 
@@ -8,6 +8,7 @@ use randomizer::Randomizer;
 use refusals::Refusal;
 use ring::{Cell, Ring};
 use std::alloc::{AllocError, AllocFailed, Global};
+use std::array;
 use std::collections::VecDeque;
 
 /// Why the model does not do what is asked: it refuses, as a hold does, or memory ran out.
@@ -29,7 +30,7 @@ impl<T: Drop> From<AllocFailed<T>> for Failure {
     }
 }
 
-/// What a hold should have, as plain lists.
+/// What a hold should have, as lists.
 #[derive(Drop)]
 struct Model {
     heap: Global,
@@ -155,10 +156,7 @@ impl<H: Hold> Trial<H> {
         match self.numbers.next() % 16 {
             0 | 1 => Ok(self.hold.open() == self.model.open()),
             2..=8 => {
-                let mut octets = [0u8; 7];
-                for octet in octets.iter_mut() {
-                    *octet = (self.numbers.next() & 0xff) as u8;
-                }
+                let octets: [u8; 7] = array::from_fn(|_| (self.numbers.next() & 0xff) as u8);
                 alike(self.hold.add(octets), self.model.add(octets))
             }
             9 | 10 => alike(self.hold.finish(), self.model.finish()),
@@ -196,7 +194,7 @@ impl<H: Hold> Trial<H> {
         let mut memory = [0xEEu8; 3];
         let read = self.hold.read_oldest(place, &mut memory);
         match candidate.get(place..place.saturating_add(3)) {
-            Some(stretch) => read == Ok(()) && stretch == &memory[0..3],
+            Some(stretch) => read == Ok(()) && stretch == memory.as_slice(),
             None => read == Err(Refusal::PastCandidateEnd) && memory == [0xEEu8; 3],
         }
     }

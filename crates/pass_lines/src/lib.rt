@@ -167,11 +167,7 @@ fn text_over<H: Hold + Drop>(
 ) -> Result<String, AllocError>
     ensures { IfOk result (λ s. string_bytes s ≡ text_from H.Hold.showing (held_in H.Hold hold) (segments_in pass.entry)) }
 {
-    let mut slots = [Report {
-        reason: Reason::Empty,
-        codeblocks: 0,
-        corrections: 0,
-    }];
+    let mut slots = [Report::UNUSED];
     let mut receiving = Receiving {
         receiver: Receiver::new(settings(), hold),
         queue: Queue::new(&mut slots),

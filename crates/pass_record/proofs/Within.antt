@@ -1,7 +1,7 @@
 -- What the invariants of a record and of a segment say of their parts. Assumes nothing.
-use Rattle.std.proofs.Common.{◌≡◌, ℕ, ◌+◌, ◌^◌, ◌<◌, ◌≤◌, Bool, List, [], length, Some, ap, ◌∙◌, zero-add, arith}
+use Rattle.std.proofs.Common.{◌≡◌, ℕ, ◌+◌, ◌<◌, ◌≤◌, [], length, Some, ap, ◌∙◌, zero-add, arith}
 use Rattle.std.specs.List.{slice_get}
-use Rattle.std.proofs.lemmas.Option.{slice_get-get_or, slice_get_within}
+use Rattle.std.proofs.lemmas.Option.{slice_get-get_or}
 use Rattle.std.specs.Coded.{le_prop}
 use Rattle.std.proofs.Math.Logic.{∥∥₁_elim}
 use Rattle.std.proofs.lemmas.List.{length-take-le}
@@ -21,9 +21,6 @@ length_symbols segment = length-take-le segment.symbols (bits_of segment.octets.
 pub length_segments : (pass : PassRecord) → length (segments_in pass) ≡ told_count pass.octets.now
 length_segments pass = length-map-range_with_len (told_segment pass.octets.now) 0 (told_count pass.octets.now)
 
-pub count_few : (pass : PassRecord) → told_count pass.octets.now ≤ 65535
-count_few pass = ∥∥₁_elim pass.laid_out le_prop (λ is. let end = right_end pass.octets.now _ is in omega (arith, end.ends, end.most))
-
 pub segment_within : (pass : PassRecord) (i : ℕ) → i < told_count pass.octets.now → told_begin pass.octets.now i + octets_for (told_size pass.octets.now i) ≤ length pass.octets.now
 segment_within pass i h =
     let octets = pass.octets.now in
@@ -36,9 +33,3 @@ segment_within pass i h =
 pub segment_there : (pass : PassRecord) (i : ℕ) → i < told_count pass.octets.now → slice_get (segments_in pass) i ≡ Some (told_segment pass.octets.now i)
 segment_there pass i h =
     slice_get-get_or (segments_in pass) i [] (omega (arith, length_segments pass)) ∙ ap Some (get_or-map-range_with_len (told_segment pass.octets.now) 0 (told_count pass.octets.now) i i [] h (zero-add i))
-
-pub place_after_segment : (pass : PassRecord) (i : ℕ) (segment : List Bool) → slice_get (segments_in pass) i ≡ Some segment → i + 1 < 2 ^ 64
-place_after_segment pass i segment there = omega (arith, slice_get_within (segments_in pass) i segment there, length_segments pass, count_few pass)
-
-pub place_after_symbol : (segment : Segment) (i : ℕ) (symbol : Bool) → slice_get (symbols_in segment) i ≡ Some symbol → i + 1 < 2 ^ 64
-place_after_symbol segment i symbol there = omega (arith, slice_get_within (symbols_in segment) i symbol there, length_symbols segment, segment.few)

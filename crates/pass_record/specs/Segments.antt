@@ -1,5 +1,5 @@
 -- The segments of a pass record that was read, the symbols of a segment, and what reading answers. Assumes nothing.
-use Rattle.std.specs.Prelude.{◌≡◌, ℕ, Bool, List, take, drop}
+use Rattle.std.specs.Prelude.{◌≡◌, ℕ, ◌-◌, Bool, List, take, drop}
 use Rattle.bch.specs.Bits.{bits_of}
 use Rattle.refusals.specs.declared.Refusal.{Refusal}
 use Rattle.refusals.specs.declared.Refusal.TheVariants.{RecordLayout}
@@ -20,10 +20,10 @@ symbols_in segment = take segment.symbols (bits_of segment.octets.now)
 
 -- the segments of a record that are still to come, and the symbols of a segment
 abbrev pub segments_left : Segments → List (List Bool)
-segments_left to_come = drop to_come.number (segments_in to_come.pass)
+segments_left to_come = take (to_come.places.end - to_come.places.start) (drop to_come.places.start (segments_in to_come.pass))
 
 abbrev pub symbols_left : Bits → List Bool
-symbols_left to_come = drop to_come.place (symbols_in to_come.segment)
+symbols_left to_come = take (to_come.places.end - to_come.places.start) (drop to_come.places.start (symbols_in to_come.segment))
 
 -- why octets are refused, and that no segments make them a record
 pub record RefusedLayout (octets : List ℕ) (why : Refusal) : Type 0 where

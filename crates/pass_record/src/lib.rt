@@ -10,6 +10,8 @@ ghost use Rattle.pass_record.specs.Reading.{number_at, unused, told_place, told_
 ghost use Rattle.pass_record.specs.Segments.{segments_in, symbols_in, segments_left, symbols_left, RefusedLayout};
 
 use refusals::Refusal;
+use std::array;
+use std::ops::Range;
 
 mod record;
 mod segment;
@@ -38,12 +40,7 @@ fn number_at(octets: &[u8], place: usize) -> u32
     requires { place + 3 < 2 ^ 64 }
     ensures { result ≡ number_at octets.now place }
 {
-    u32::from_be_bytes([
-        octet_at(octets, place),
-        octet_at(octets, place + 1),
-        octet_at(octets, place + 2),
-        octet_at(octets, place + 3),
-    ])
+    u32::from_be_bytes(array::from_fn(|i| octet_at(octets, place + i)))
 }
 
 // How many entries there are.
@@ -76,8 +73,7 @@ fn told_entry(octets: &[u8], i: u32) -> Entry
 fn ends_right(octets: &[u8]) -> bool
     ensures { Decides result (RightEnd octets.now) }
 {
-    8 <= octets.len()
-        && octets.len() <= 65535
+    (8..=65535).contains(&octets.len())
         && told_place(octets) as usize + 8 * told_count(octets) as usize + 8 == octets.len()
 }
 
@@ -152,7 +148,7 @@ impl<'a> PassRecord<'a> {
         let entry = told_entry(self.octets, i);
         Segment {
             octets: &self.octets[entry.begin as usize..],
-            symbols: entry.symbols as usize,
+            symbols: entry.symbols,
         }
     }
 
@@ -173,7 +169,7 @@ impl<'a> PassRecord<'a> {
     {
         Segments {
             pass: *self,
-            number: 0,
+            places: 0..self.count(),
         }
     }
 }
@@ -184,7 +180,7 @@ impl<'a> Segment<'a> {
     pub fn len(&self) -> usize
         ensures { result ≡ length (symbols_in self.now) }
     {
-        self.symbols
+        self.symbols as usize
     }
 
     // The symbol at a place.
@@ -199,7 +195,7 @@ impl<'a> Segment<'a> {
     pub fn bit(&self, place: usize) -> Option<bool>
         ensures { result ≡ slice_get (symbols_in self.now) place }
     {
-        if place < self.symbols {
+        if place < self.symbols as usize {
             Some(self.symbol(place))
         } else {
             None
@@ -212,7 +208,7 @@ impl<'a> Segment<'a> {
     {
         Bits {
             segment: *self,
-            place: 0,
+            places: 0..self.len(),
         }
     }
 }
@@ -221,8 +217,8 @@ impl<'a> Segment<'a> {
 #[derive(Drop)]
 pub struct Segments<'a> {
     pass: PassRecord<'a>,
-    // How many segments come before the next.
-    number: usize,
+    // The places of the segments still to come.
+    places: Range<usize>,
 }
 
 impl<'a> Iterator for Segments<'a> {
@@ -232,11 +228,10 @@ impl<'a> Iterator for Segments<'a> {
 
     ghost remaining = { item_count segments_left };
 
-    #[tactic(auto, using(crate::proofs::Coming::one_comes, crate::proofs::Coming::none_comes, crate::proofs::Within::place_after_segment))]
+    #[tactic(auto, using(crate::proofs::Coming::one_comes, crate::proofs::Coming::none_comes, crate::proofs::Coming::none_after, crate::proofs::Coming::past_comes))]
     fn next(&mut self) -> Option<Segment<'a>> {
-        let segment = self.pass.segment(self.number)?;
-        self.number += 1;
-        Some(segment)
+        let place = self.places.next()?;
+        self.pass.segment(place)
     }
 }
 
@@ -245,8 +240,8 @@ impl<'a> Iterator for Segments<'a> {
 #[derive(Drop)]
 pub struct Bits<'a> {
     segment: Segment<'a>,
-    // How many symbols come before the next.
-    place: usize,
+    // The places of the symbols still to come.
+    places: Range<usize>,
 }
 
 impl Iterator for Bits<'_> {
@@ -256,11 +251,10 @@ impl Iterator for Bits<'_> {
 
     ghost remaining = { item_count symbols_left };
 
-    #[tactic(auto, using(crate::proofs::Coming::one_comes, crate::proofs::Coming::none_comes, crate::proofs::Within::place_after_symbol))]
+    #[tactic(auto, using(crate::proofs::Coming::one_comes, crate::proofs::Coming::none_comes, crate::proofs::Coming::none_after, crate::proofs::Coming::past_comes))]
     fn next(&mut self) -> Option<bool> {
-        let bit = self.segment.bit(self.place)?;
-        self.place += 1;
-        Some(bit)
+        let place = self.places.next()?;
+        self.segment.bit(place)
     }
 }
 
@@ -281,10 +275,7 @@ mod tests {
     ];
 
     fn refused(octets: &[u8]) -> bool {
-        match PassRecord::read(octets) {
-            Ok(_) => false,
-            Err(refusal) => refusal == Refusal::RecordLayout,
-        }
+        PassRecord::read(octets).err() == Some(Refusal::RecordLayout)
     }
 
     // Whether two segments are refused with another octet at a place.
@@ -300,10 +291,7 @@ mod tests {
     fn one_segment(rt: HostRuntime) -> Result<(), Fail> {
         let pass = PassRecord::read(&ONE_SEGMENT)?;
         assert!(rt; pass.count() == 1 && pass.segment(1).is_none());
-        let Some(segment) = pass.segment(0) else {
-            assert!(rt; false);
-            return Ok(());
-        };
+        let segment = pass.segment(0).ok_or("no segment")?;
         assert!(rt; segment.len() == 144 && segment.bit(144) == None);
         for place in 0..144 {
             let octet = ONE_SEGMENT[place / 8];
@@ -317,10 +305,8 @@ mod tests {
     fn two_segments(rt: HostRuntime) -> Result<(), Fail> {
         let pass = PassRecord::read(&TWO_SEGMENTS)?;
         assert!(rt; pass.count() == 2);
-        let (Some(first), Some(second)) = (pass.segment(0), pass.segment(1)) else {
-            assert!(rt; false);
-            return Ok(());
-        };
+        let first = pass.segment(0).ok_or("no first segment")?;
+        let second = pass.segment(1).ok_or("no second segment")?;
         assert!(rt; first.len() == 3 && first.bit(2) == Some(true) && first.bit(3) == None);
         assert!(rt;
             second.len() == 9 && second.bit(0) == Some(false) && second.bit(3) == Some(true)

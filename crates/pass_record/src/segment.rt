@@ -1,12 +1,11 @@
-ghost use Rattle.std.specs.Prelude.{◌*◌, ◌^◌, ◌<◌, ◌≤◌, length};
+ghost use Rattle.std.specs.Prelude.{◌*◌, ◌≤◌, length};
 
 /// One segment of a pass record: symbols that were received without a gap.
 #[derive(Clone, Copy)]
 pub struct Segment<'a> {
     // The first octet of the segment, and all that follow it in the record.
     pub(crate) octets: &'a [u8],
-    // How many symbols the segment has, a number of four octets.
-    pub(crate) symbols: usize,
-    ghost few: { symbols < 2 ^ 32 },
+    // How many symbols the segment has.
+    pub(crate) symbols: u32,
     ghost held: { symbols ≤ 8 * length octets.now },
 }

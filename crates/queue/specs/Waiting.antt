@@ -2,17 +2,17 @@
 use Rattle.std.specs.Prelude.{◌≡◌, ℕ, ◌<◌, List, [], ◌∷◌, ◌++◌, length, take}
 use Rattle.refusals.specs.declared.Refusal.{Refusal}
 use Rattle.refusals.specs.declared.Refusal.TheVariants.{QueueFull, QueueEmpty}
-use Rattle.circular.specs.Circle.{round_from}
+use Rattle.circular.specs.Turns.{in_turn}
 use Rattle.queue.specs.declared.slots.Queue.{Queue}
 
 module _ {X : Type 0} where
   -- the records that wait, oldest first
   abbrev pub waiting : Queue X → List X
-  waiting q = take q.count (round_from q.first q.slots.now)
+  waiting q = take q.count (in_turn q.slots)
 
   -- how many records can wait at once
   abbrev pub capacity : Queue X → ℕ
-  capacity q = length q.slots.now
+  capacity q = length (in_turn q.slots)
 
   -- what a put that is accepted found and leaves
   pub record Put (before : Queue X) (x : X) (after : Queue X) : Type 0 where

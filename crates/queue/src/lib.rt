@@ -2,10 +2,9 @@
 #![tactic(auto)]
 
 ghost use Rattle.std.specs.Prelude.{◌≡◌, ◌≤◌, [], length, MatchResult};
-ghost use Rattle.circular.specs.Circle.{Turned};
 ghost use Rattle.queue.specs.Waiting.{waiting, capacity, Put, RefusedFull, Taken, RefusedEmpty};
 
-use circular::place_after;
+use circular::Circle;
 use refusals::Refusal;
 
 mod slots;
@@ -19,8 +18,7 @@ impl<'a, T: Copy> Queue<'a, T> {
         ensures capacity { capacity result ≡ length slots.old }
     {
         Queue {
-            slots,
-            first: 0,
+            slots: Circle::new(slots),
             count: 0,
         }
     }
@@ -41,13 +39,6 @@ impl<'a, T: Copy> Queue<'a, T> {
         self.count
     }
 
-    // The place of the slot that comes so many after the oldest record's. After the last comes the first.
-    fn place(&self, turn: usize) -> usize
-        ensures { Turned (capacity self.now) self.now.first turn result }
-    {
-        place_after(self.capacity(), self.first, turn)
-    }
-
     /// Puts a record behind all that wait. Refused with `QueueFull` exactly where as many records wait
     /// as there are slots, and then the queue is as it was.
     #[tactic(auto, using(crate::proofs::Turns::put_behind, crate::proofs::Turns::length_waiting))]
@@ -59,15 +50,14 @@ impl<'a, T: Copy> Queue<'a, T> {
         if waiting == self.capacity() {
             return Err(Refusal::QueueFull);
         }
-        let place = self.place(waiting);
-        self.slots[place] = record;
+        self.slots.set(waiting, record);
         self.count += 1;
         Ok(())
     }
 
     /// Takes the record that waits longest. Refused with `QueueEmpty` exactly where none waits, and
     /// then the queue is as it was.
-    #[tactic(auto, using(crate::proofs::Turns::oldest_first))]
+    #[tactic(auto, using(crate::proofs::Turns::oldest_first, crate::proofs::Turns::as_many))]
     pub fn take(&mut self) -> Result<T, Refusal>
         ensures answer { MatchResult result (λ x. Taken self.old x self.new) (RefusedEmpty self.old self.new) }
         ensures capacity { capacity self.new ≡ capacity self.old }
@@ -75,8 +65,8 @@ impl<'a, T: Copy> Queue<'a, T> {
         if self.count == 0 {
             return Err(Refusal::QueueEmpty);
         }
-        let oldest = self.slots[self.place(0)];
-        self.first = self.place(1);
+        let oldest = *self.slots.get(0).unwrap();
+        self.slots.advance(1);
         self.count -= 1;
         Ok(oldest)
     }

@@ -1,13 +1,14 @@
 ghost use Rattle.std.specs.Prelude.{◌≤◌, length};
+ghost use Rattle.circular.specs.Turns.{in_turn};
+
+use circular::Circle;
 
 /// Records that wait in a ring of lent slots, to be taken in the order in which they were put.
 #[derive(Drop)]
 pub struct Queue<'a, T> {
-    pub(crate) slots: &'a mut [T],
-    // The place of the oldest record, or of the next one where none waits.
-    pub(crate) first: usize,
+    // The slots, that of the oldest record first.
+    pub(crate) slots: Circle<'a, T>,
     // How many records wait.
     pub(crate) count: usize,
-    ghost placed: { first ≤ length slots.now },
-    ghost within: { count ≤ length slots.now },
+    ghost within: { count ≤ length (in_turn slots) },
 }

@@ -1,10 +1,9 @@
 //! The receiver: symbols in, candidates into a hold, reports into the caller's queue.
 #![tactic(auto)]
 
-ghost use Rattle.std.specs.Prelude.{◌≡◌, ◌≤◌, true, [], ◌∷◌, length};
-ghost use Rattle.std.specs.Option.{option_to_list};
+ghost use Rattle.std.specs.Prelude.{◌≡◌, true, [], ◌∷◌, length};
 ghost use Rattle.hold.specs.Candidates.{oldest_length, oldest_octet, copy_answer, after_copy};
-ghost use Rattle.reception.specs.Rules.{added, room, made, symbol, SEARCH, quietly, at_symbol};
+ghost use Rattle.reception.specs.Rules.{bit_value, added, room, made, symbol, SEARCH, quietly, at_symbol};
 ghost use Rattle.reception.specs.Calls.{call_up, call_down, symbol_events, call_release, refusal, event_refusal, answered};
 ghost use Rattle.reception.specs.Promise.{ReceiverPromise};
 ghost use Rattle.searching.specs.Symbols.{decisions};
@@ -149,45 +148,34 @@ impl<H: Hold> Receiver<H> {
     {
         let mut made = 0;
         for symbol in symbols {
-            made += self.take_symbol(symbol.hard_decision(), reports);
+            made += usize::from(self.take_symbol(symbol.hard_decision(), reports));
         }
         made
     }
 
-    // One symbol: how many reports it made, 0 or 1. In INACTIVE it changes nothing.
-    fn take_symbol(&mut self, bit: bool, reports: &mut Queue<'_, Report>) -> usize
-        ensures few { result ≤ 1 }
-        ensures made { result ≡ length (reports_at H.Hold self.old (symbol bit ∷ [])) }
+    // One symbol: whether it made a report. In INACTIVE it changes nothing.
+    fn take_symbol(&mut self, bit: bool, reports: &mut Queue<'_, Report>) -> bool
+        ensures made { bit_value result ≡ length (reports_at H.Hold self.old (symbol bit ∷ [])) }
         ensures ran { Ran H.Hold (symbol bit ∷ []) self.old self.new reports.old reports.new }
     {
-        self.take_event(Event::Symbol(bit), reports).unwrap_or(0)
+        matches!(self.take_event(Event::Symbol(bit), reports), Ok(Some(_)))
     }
 
-    // One event, and its report told, if it makes one: how many it made, 0 or 1.
+    // One event: the report that it made, if any, which is told.
     fn take_event(
         &mut self,
         event: Event,
         reports: &mut Queue<'_, Report>,
-    ) -> Result<usize, Refusal>
-        ensures answer { result ≡ answered (event_refusal (state_of H.Hold self.old) (event_of event)) (length (outcome_of H.Hold self.old (event_of event)).reports) }
+    ) -> Result<Option<Report>, Refusal>
+        ensures refused { refused_by result ≡ event_refusal (state_of H.Hold self.old) (event_of event) }
+        ensures reported { reported_by result ≡ (outcome_of H.Hold self.old (event_of event)).reports }
         ensures ran { Ran H.Hold (event_of event ∷ []) self.old self.new reports.old reports.new }
     {
         let made = self.at_event(event)?;
-        Ok(self.tell(made, reports))
-    }
-
-    // Tells a report, if there is one: how many there were, 0 or 1.
-    fn tell(&mut self, made: Option<Report>, reports: &mut Queue<'_, Report>) -> usize
-        ensures count { result ≡ length (option_to_list made) }
-        ensures told { Told H.Hold (option_to_list made) self.old self.new reports.old reports.new }
-    {
-        match made {
-            None => 0,
-            Some(report) => {
-                self.put(report, reports);
-                1
-            }
+        if let Some(report) = made {
+            self.put(report, reports);
         }
+        Ok(made)
     }
 
     // Puts a report into the caller's queue, or counts it as lost where that is full.

@@ -3,17 +3,18 @@
 
 use anyhow::Context;
 use bch::Mode;
-use cltu::{CodeblockLimit, Sender};
+use cltu::{CodeblockLimit, LONGEST_CLTU, Sender};
 use decoding::Settings;
 use derandomizing::Derandomizing;
 use hold::Hold;
 use queue::Queue;
 use randomizer::Randomizer;
 use receiver::{Receiver, ReceiverState};
-use reception::{Reason, Report};
+use reception::{Reason, Report, recovery_bits};
 use refusals::Refusal;
 use ring::{Cell, Ring};
 use std::alloc::{AllocError, Global};
+use std::collections::VecDeque;
 use std::{fmt, iter};
 
 /// A sequence of numbers in which no pattern is easily seen.
@@ -119,7 +120,32 @@ struct Answers {
     finished_count: usize,
     length: Result<usize, Refusal>,
     oldest: Vec<u8>,
-    reports: Vec<Report>,
+    reports: VecDeque<Report>,
+}
+
+/// Why the model does not do what is asked: it refuses, as a receiver does, or memory ran out.
+#[derive(Drop)]
+enum Failure {
+    Refused(Refusal),
+    NoMemory(AllocError),
+}
+
+impl From<AllocError> for Failure {
+    fn from(error: AllocError) -> Failure {
+        Failure::NoMemory(error)
+    }
+}
+
+/// Whether the model answers what the receiver answered.
+fn alike<T: PartialEq + Drop>(
+    answer: Result<T, Refusal>,
+    model: Result<T, Failure>,
+) -> Result<bool, AllocError> {
+    match model {
+        Ok(value) => Ok(answer == Ok(value)),
+        Err(Failure::Refused(refusal)) => Ok(answer == Err(refusal)),
+        Err(Failure::NoMemory(error)) => Err(error),
+    }
 }
 
 /// What a receiver should have.
@@ -134,8 +160,8 @@ struct Model {
     symbols: Vec<bool>,
     opened: Vec<u8>,
     corrections: usize,
-    finished: Vec<Vec<u8>>,
-    reports: Vec<Report>,
+    finished: VecDeque<Vec<u8>>,
+    reports: VecDeque<Report>,
     lost: u16,
 }
 
@@ -159,14 +185,10 @@ fn remainder(symbols: &[bool]) -> u8 {
 
 // The symbol that has to be turned to make a codeblock of 64 symbols with this remainder.
 fn turned_symbol(remainder: u8) -> Option<usize> {
-    let mut power = 1;
-    for symbol in (0..63).rev() {
-        if power == remainder {
-            return Some(symbol);
-        }
-        power = times_x(power);
-    }
-    None
+    iter::successors(Some(1), |power| Some(times_x(*power)))
+        .take(63)
+        .position(|power| power == remainder)
+        .map(|degree| 62 - degree)
 }
 
 impl Model {
@@ -180,8 +202,8 @@ impl Model {
             symbols: Vec::new(heap),
             opened: Vec::new(heap),
             corrections: 0,
-            finished: Vec::new(heap),
-            reports: Vec::new(heap),
+            finished: VecDeque::new(heap),
+            reports: VecDeque::new(heap),
             lost: 0,
         }
     }
@@ -194,7 +216,7 @@ impl Model {
 
     /// What a receiver should answer.
     fn answers(&self) -> Result<Answers, AllocError> {
-        let (length, oldest) = match self.finished.first() {
+        let (length, oldest) = match self.finished.front() {
             Some(candidate) => (Ok(candidate.len()), candidate.clone()?),
             None => (Err(Refusal::NoCandidate), Vec::new(self.heap)),
         };
@@ -218,48 +240,46 @@ impl Model {
         Ok(())
     }
 
-    // A refusal is an answer here, which is compared as a whole with the receiver's, and no error.
-    fn carrier_down(&mut self) -> Result<Result<(), Refusal>, AllocError> {
+    fn carrier_down(&mut self) -> Result<(), Failure> {
         match self.state {
-            ReceiverState::Inactive => return Ok(Err(Refusal::CarrierDown)),
+            ReceiverState::Inactive => return Err(Failure::Refused(Refusal::CarrierDown)),
             ReceiverState::Search => self.symbols.clear(),
             ReceiverState::Decode => self.end(Reason::Down)?,
         }
         self.state = ReceiverState::Inactive;
-        Ok(Ok(()))
+        Ok(())
     }
 
     fn release(&mut self) -> Result<(), Refusal> {
-        if self.finished.is_empty() {
-            return Err(Refusal::NoCandidate);
-        }
-        let _ = self.finished.remove(0);
+        let _ = self.finished.pop_front().ok_or(Refusal::NoCandidate)?;
         Ok(())
     }
 
     /// The reader of reports takes one.
     fn take_report(&mut self) -> Result<Report, Refusal> {
-        if self.reports.is_empty() {
-            return Err(Refusal::QueueEmpty);
-        }
-        Ok(self.reports.remove(0))
+        self.reports.pop_front().ok_or(Refusal::QueueEmpty)
     }
 
-    // As `carrier_down`, a refusal is an answer.
-    fn symbols(&mut self, symbols: &[bool]) -> Result<Result<usize, Refusal>, AllocError> {
+    fn symbols(&mut self, symbols: &[bool]) -> Result<usize, Failure> {
         if self.state == ReceiverState::Inactive {
-            return Ok(Err(Refusal::CarrierDown));
+            return Err(Failure::Refused(Refusal::CarrierDown));
         }
         let mut made: usize = 0;
         for symbol in symbols {
-            self.symbols.push(*symbol)?;
-            if self.state == ReceiverState::Search {
-                self.search();
-            } else if self.symbols.len() == 64 {
-                made = made.saturating_add(self.decode()?);
-            }
+            made = made.saturating_add(self.symbol(*symbol)?);
         }
-        Ok(Ok(made))
+        Ok(made)
+    }
+
+    // One symbol while the carrier is up: how many reports it makes.
+    fn symbol(&mut self, symbol: bool) -> Result<usize, AllocError> {
+        self.symbols.push(symbol)?;
+        if self.state == ReceiverState::Search {
+            self.search();
+        } else if self.symbols.len() == 64 {
+            return self.decode();
+        }
+        Ok(0)
     }
 
     fn search(&mut self) {
@@ -281,9 +301,11 @@ impl Model {
     // 64 symbols are there: how many reports they make.
     fn decode(&mut self) -> Result<usize, AllocError> {
         let remainder = remainder(self.symbols.as_slice());
-        let turned = turned_symbol(remainder);
-        let corrects = self.setup.settings.mode == Mode::Correcting && turned.is_some();
-        let reason = if remainder != 0 && !corrects {
+        let turned = match self.setup.settings.mode {
+            Mode::Correcting => turned_symbol(remainder),
+            Mode::Detecting => None,
+        };
+        let reason = if remainder != 0 && turned.is_none() {
             if self.opened.is_empty() {
                 Reason::Empty
             } else {
@@ -332,13 +354,13 @@ impl Model {
             corrections: self.corrections,
         };
         if self.reports.len() < self.setup.slots {
-            self.reports.push(report)?;
+            self.reports.push_back(report)?;
         } else {
             self.lost = self.lost.saturating_add(1);
         }
         let candidate = std::mem::replace(&mut self.opened, Vec::new(self.heap));
         if let Reason::Closed = reason {
-            self.finished.push(candidate)?;
+            self.finished.push_back(candidate)?;
         }
         self.corrections = 0;
         self.symbols.clear();
@@ -363,15 +385,8 @@ fn sequence(heap: Global, octets: usize) -> Result<Vec<u8>, AllocError> {
         .collect(heap)
 }
 
-/// What stands in slots in which no report waits.
-const UNUSED: Report = Report {
-    reason: Reason::Empty,
-    codeblocks: 0,
-    corrections: 0,
-};
-
 /// How much was compared, and where the first difference was.
-#[derive(Clone, Copy)]
+#[derive(Clone, Copy, Default)]
 struct Tally {
     runs: u32,
     comparisons: u32,
@@ -385,16 +400,6 @@ struct Tally {
 }
 
 impl Tally {
-    const NOTHING: Tally = Tally {
-        runs: 0,
-        comparisons: 0,
-        refused: 0,
-        symbols: 0,
-        reports: 0,
-        differences: 0,
-        first: None,
-    };
-
     /// One comparison more.
     fn count(&mut self, alike: bool) {
         self.comparisons = self.comparisons.saturating_add(1);
@@ -430,11 +435,11 @@ struct Bench<'a, H: Hold> {
 }
 
 /// The reports in a queue, which is left as it was.
-fn waiting(heap: Global, queue: &mut Queue<'_, Report>) -> Result<Vec<Report>, AllocError> {
-    let mut reports = Vec::new(heap);
+fn waiting(heap: Global, queue: &mut Queue<'_, Report>) -> Result<VecDeque<Report>, AllocError> {
+    let mut reports = VecDeque::new(heap);
     for _ in 0..queue.len() {
         if let Ok(report) = queue.take() {
-            reports.push(report)?;
+            reports.push_back(report)?;
             let _ = queue.put(report);
         }
     }
@@ -475,7 +480,7 @@ impl<'a, H: Hold + Drop> Bench<'a, H> {
             limit: CodeblockLimit::MOST,
             randomizer: self.setup.randomizer,
         };
-        let mut memory = vec![in self.heap; 0u8; 1186]?;
+        let mut memory = vec![in self.heap; 0u8; LONGEST_CLTU]?;
         let octets = sender
             .write_cltu(frame, memory.as_mut_slice())
             .context("a frame was refused")?;
@@ -540,7 +545,8 @@ impl<'a, H: Hold + Drop> Bench<'a, H> {
     }
 
     fn carrier_down(&mut self) -> Result<(), AllocError> {
-        let alike = self.receiver.carrier_down(&mut self.queue) == self.model.carrier_down()?;
+        let answer = self.receiver.carrier_down(&mut self.queue);
+        let alike = alike(answer, self.model.carrier_down())?;
         self.compare(alike)
     }
 
@@ -551,7 +557,8 @@ impl<'a, H: Hold + Drop> Bench<'a, H> {
             1 if self.setup.taken => self.queue.take() == self.model.take_report(),
             _ => {
                 let none: [bool; 0] = [];
-                self.receiver.symbols(&none, &mut self.queue) == self.model.symbols(&none)?
+                let answer = self.receiver.symbols(&none, &mut self.queue);
+                alike(answer, self.model.symbols(&none))?
             }
         };
         self.compare(alike)
@@ -629,11 +636,9 @@ impl<'a, H: Hold + Drop> Bench<'a, H> {
     fn has_only(&self, frame: &[u8]) -> Result<bool, AllocError> {
         let oldest = self.oldest()?;
         let is_one = self.receiver.finished_count() == 1
-            && oldest.len() / 7 == frame.len().saturating_add(6) / 7;
-        Ok(match oldest.as_slice().strip_prefix(frame) {
-            Some(fill) => is_one && fill.iter().all(|octet| *octet == 0x55),
-            None => false,
-        })
+            && oldest.len() / 7 == frame.len().div_ceil(7);
+        let fill = oldest.as_slice().strip_prefix(frame);
+        Ok(is_one && fill.is_some_and(|fill| fill.iter().all(|octet| *octet == 0x55)))
     }
 
     /// What may lie between two CLTUs besides symbols: a carrier break, refused calls or nothing.
@@ -665,7 +670,7 @@ impl<'a, H: Hold + Drop> Bench<'a, H> {
         };
         self.tally.symbols = self.tally.symbols.saturating_add(bits.len());
         self.tally.reports = self.tally.reports.saturating_add(made.unwrap_or(0));
-        let alike = made == self.model.symbols(bits)?;
+        let alike = alike(made, self.model.symbols(bits))?;
         self.compare(alike)
     }
 }
@@ -721,22 +726,19 @@ struct Recovery;
 
 impl Trial for Recovery {
     fn run<H: Hold + Drop>(&self, bench: &mut Bench<'_, H>) -> anyhow::Result<()> {
-        let limit = bench.setup.settings.limit.count();
+        let settings = bench.setup.settings;
         bench.carrier_up()?;
         let mut garbage = bench.command()?;
         garbage.truncate(bench.numbers.below(301));
         bench.line(garbage.as_slice())?;
         let mut idle = Vec::new(bench.heap);
-        let bits = match bench.setup.settings.mode {
-            Mode::Correcting => limit * 64 + 67,
-            Mode::Detecting => 127,
-        };
+        let bits = recovery_bits(settings.mode, settings.limit);
         put_idle(&mut idle, bits, bench.numbers.bit())?;
         bench.line(idle.as_slice())?;
         let searches = bench.searches();
         bench.tally.count(searches);
         bench.release_all()?;
-        let octets = bench.numbers.below((limit * 7).min(1024));
+        let octets = bench.numbers.below((settings.limit.count() * 7).min(1024));
         let frame = bench.frame(octets.saturating_add(1))?;
         let mut line = Vec::new(bench.heap);
         bench.put_cltu(&mut line, frame.as_slice())?;
@@ -815,17 +817,17 @@ fn run<T: Trial>(
     tally: &mut Tally,
 ) -> anyhow::Result<()> {
     let mut cells = vec![in heap; Cell::EMPTY; setup.cells]?;
-    let mut slots = vec![in heap; UNUSED; setup.slots]?;
+    let mut slots = vec![in heap; Report::UNUSED; setup.slots]?;
     let slots = slots.as_mut_slice();
-    let mut ring = Ring::new(cells.as_mut_slice());
+    let ring = Ring::new(cells.as_mut_slice());
     match setup.randomizer {
         Randomizer::Off => {
             let none = Vec::new(heap);
-            trial.run(&mut Bench::new(heap, setup, &mut ring, slots, none, numbers, tally))
+            trial.run(&mut Bench::new(heap, setup, ring, slots, none, numbers, tally))
         }
         Randomizer::On => {
             let sequence = sequence(heap, 1029)?;
-            let layer = Derandomizing::over(&mut ring);
+            let layer = Derandomizing::over(ring);
             trial.run(&mut Bench::new(heap, setup, layer, slots, sequence, numbers, tally))
         }
     }
@@ -852,7 +854,7 @@ impl<R: Print + AllocGlobal> Trials<'_, R> {
     ) -> anyhow::Result<()>
         requires { F.IsAlwaysCallable change }
     {
-        let mut tally = Tally::NOTHING;
+        let mut tally = Tally::default();
         for _ in 0..runs {
             tally.runs = tally.runs.saturating_add(1);
             let setup = change(any_setup(&mut self.numbers)?);
@@ -898,7 +900,7 @@ impl<R: Print + AllocGlobal> Trials<'_, R> {
 
     /// The idle bit at which a receiver with this limit is back in SEARCH.
     fn recovery_bits(&mut self, limit: usize, first: bool) -> anyhow::Result<()> {
-        let mut tally = Tally::NOTHING;
+        let mut tally = Tally::default();
         let mut numbers = Numbers::new(1);
         let settings = Settings::new(Mode::Correcting, limit).context("a limit was refused")?;
         let setup = Setup {

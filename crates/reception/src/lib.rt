@@ -63,6 +63,15 @@ pub struct Report {
     pub corrections: usize,
 }
 
+impl Report {
+    /// A report to make memory for a queue of.
+    pub const UNUSED: Report = Report {
+        reason: Reason::Empty,
+        codeblocks: 0,
+        corrections: 0,
+    };
+}
+
 /// The reason, the codeblocks and the corrections, as `closed 3 1`.
 impl fmt::Display for Report {
     ghost output = { λ report. Some (report_text report) };

@@ -1,8 +1,9 @@
 -- A ring's candidates in its cells: how many codeblocks they have, and the oldest of them. Assumes nothing.
-use Rattle.std.proofs.Common.{◌≡◌, ℕ, zero, suc, ◌+◌, ◌-◌, ◌*◌, ◌/◌, ◌%◌, ◌<◌, ◌≤◌, true, List, [], ◌∷◌, ◌++◌, length, get_or, take, drop, set, Some, None, Ok, Option, sym, refl, ap, ◌∙◌, ap₂, arith}
+use Rattle.std.proofs.Common.{◌≡◌, ℕ, zero, suc, ◌+◌, ◌-◌, ◌*◌, ◌/◌, ◌%◌, ◌<◌, ◌≤◌, true, List, [], ◌∷◌, ◌++◌, length, get_or, take, drop, set, slice_get, Some, None, Ok, Option, sym, refl, ap, ◌∙◌, ap₂, arith}
 use Rattle.std.proofs.lemmas.List.{length-take-le, length-drop, get_or-take, take_all, take_more, take_more_set, get_or-drop, take-append-le, drop-append-le, drop-drop, drop-take}
-use Rattle.circular.specs.Circle.{round_from, Turned}
-use Rattle.circular.proofs.Rounds.{length_round_from, round_from_on, get_or_turned}
+use Rattle.circular.specs.Circle.{round_from}
+use Rattle.circular.proofs.Rounds.{length_round_from}
+use Rattle.std.proofs.lemmas.Option.{get_or_from_slice_get}
 use Rattle.hold.specs.Candidates.{finished_codeblocks, open_codeblocks, oldest_octet, stretch_answer, after_stretch, after_release}
 use Rattle.ring.specs.declared.cells.Cell.{Cell}
 use Rattle.ring.specs.declared.cells.Ring.{Ring}
@@ -36,16 +37,16 @@ module _ (ring : Ring) where
   used_cells = take ring.used (in_turn ring)
 
   pub finished_is_used : finished_codeblocks (finished_in ring) ≡ ring.used
-  finished_is_used = finished_codeblocks_used ring.cells.now ring.first ring.used ring.waiting ring.unfinished ring.within ring.whole
+  finished_is_used = finished_codeblocks_used (in_turn ring) ring.used ring.waiting ring.unfinished ring.within ring.whole
 
   pub open_is_added : open_codeblocks (opened_in ring) ≡ added ring.unfinished
-  open_is_added = open_codeblocks_added ring.cells.now ring.first ring.used ring.waiting ring.unfinished ring.within ring.whole
+  open_is_added = open_codeblocks_added (in_turn ring) ring.used ring.waiting ring.unfinished ring.within ring.whole
 
-  pub length_in_turn : length (in_turn ring) ≡ capacity_of ring
-  length_in_turn = length_round_from ring.cells.now ring.first
+  pub as_many : (turns : ℕ) → length (round_from turns (in_turn ring)) ≡ capacity_of ring
+  as_many turns = length_round_from (in_turn ring) turns
 
   pub length_used_cells : length used_cells ≡ ring.used
-  length_used_cells = length-take-le ring.used (in_turn ring) (omega (arith, length_in_turn, ring.within))
+  length_used_cells = length-take-le ring.used (in_turn ring) (omega (arith, ring.within))
 
   pub few_wait : ring.waiting ≤ ring.used
   few_wait = omega (arith, few_parts ring.waiting used_cells ring.whole, length_used_cells)
@@ -80,24 +81,22 @@ module _ (ring : Ring) where
           kept_past = λ place memory h. kept_past fs place memory waits (omega arith);
         }
 
-    pub counted_first : (place : ℕ) → Turned (capacity_of ring) ring.first 0 place → (get_or ring.cells.now place blank).codeblocks ≡ first_count used_cells
-    counted_first place after =
-        let any : 0 < capacity_of ring = omega (arith, few_wait, ring.within) in
-        ap (λ cell. cell.codeblocks)
-        (get_or_turned ring.cells.now ring.first 0 place blank any after
+    pub counted_first : (cell : Cell) → slice_get (in_turn ring) 0 ≡ Some cell → cell.codeblocks ≡ first_count used_cells
+    counted_first cell is =
+        ap (λ x. x.codeblocks)
+        (sym (get_or_from_slice_get (in_turn ring) 0 cell blank is)
         ∙ sym (get_or-take ring.used (in_turn ring) 0 blank (omega (arith, few_wait))))
         ∙ sym (first_count_get_or used_cells)
 
     -- the octet at a place of the oldest candidate is in the cell that comes a seventh as far
-    pub octet_at : (place cell : ℕ) → place < length (oldest_of (finished_in ring)) → Turned (capacity_of ring) ring.first (place / 7) cell →
-        get_or (get_or ring.cells.now cell blank).octets (place % 7) 0 ≡ get_or (oldest_of (finished_in ring)) place 0
-    octet_at place cell h after =
+    pub octet_at : (place : ℕ) (cell : Cell) → place < length (oldest_of (finished_in ring)) → slice_get (in_turn ring) (place / 7) ≡ Some cell →
+        get_or cell.octets (place % 7) 0 ≡ get_or (oldest_of (finished_in ring)) place 0
+    octet_at place cell h is =
         let c = first_count used_cells in
         let few = oldest_first.within in
         let before : place / 7 < c = omega (arith, length_oldest) in
-        let turn : place / 7 < capacity_of ring = omega (arith, length_used_cells, ring.within) in
         ap (λ x. get_or x.octets (place % 7) 0)
-        (get_or_turned ring.cells.now ring.first (place / 7) cell blank turn after
+        (sym (get_or_from_slice_get (in_turn ring) (place / 7) cell blank is)
         ∙ sym (get_or-take c used_cells (place / 7) blank before ∙ get_or-take ring.used (in_turn ring) (place / 7) blank (omega (arith, length_used_cells))))
         ∙ sym (ap (λ fs. get_or (oldest_of fs) place 0) oldest_first.candidates ∙ get_or_octets_of (take c used_cells) place blank (omega (arith, length_oldest, length-take-le c used_cells few)))
 
@@ -114,16 +113,16 @@ module _ (ring : Ring) where
         let all : i ≡ length memory = omega arith in
         sym (take_all i later (omega arith)) ∙ read ∙ ap (λ n. take n (drop place (oldest_of (finished_in ring)))) all ∙ stretch_read (finished_in ring) place memory waits h
 
-  pub oldest_counted : (place : ℕ) → 0 < ring.waiting → Turned (capacity_of ring) ring.first 0 place → Oldest ring (get_or ring.cells.now place blank).codeblocks
-  oldest_counted place some after = is_oldest some _ (counted_first some place after)
+  pub oldest_counted : (cell : Cell) → 0 < ring.waiting → slice_get (in_turn ring) 0 ≡ Some cell → Oldest ring cell.codeblocks
+  oldest_counted cell some is = is_oldest some _ (counted_first some cell is)
 
-  pub octet_value : (place cell : ℕ) → place < length (oldest_of (finished_in ring)) → Turned (capacity_of ring) ring.first (place / 7) cell →
-      get_or (get_or ring.cells.now cell blank).octets (place % 7) 0 ≡ get_or (oldest_of (finished_in ring)) place 0
-  octet_value place cell h after = octet_at (some_wait ring.waiting used_cells (omega arith)) place cell h after
+  pub octet_value : (place : ℕ) (cell : Cell) → place < length (oldest_of (finished_in ring)) → slice_get (in_turn ring) (place / 7) ≡ Some cell →
+      get_or cell.octets (place % 7) 0 ≡ get_or (oldest_of (finished_in ring)) place 0
+  octet_value place cell h is = octet_at (some_wait ring.waiting used_cells (omega arith)) place cell h is
 
-  pub octet_answered : (place cell : ℕ) → place < length (oldest_of (finished_in ring)) → Turned (capacity_of ring) ring.first (place / 7) cell →
-      oldest_octet (finished_in ring) place ≡ Ok (get_or (get_or ring.cells.now cell blank).octets (place % 7) 0)
-  octet_answered place cell h after = octet_inside (finished_in ring) place h ∙ ap Ok (sym (octet_value place cell h after))
+  pub octet_answered : (place : ℕ) (cell : Cell) → place < length (oldest_of (finished_in ring)) → slice_get (in_turn ring) (place / 7) ≡ Some cell →
+      oldest_octet (finished_in ring) place ≡ Ok (get_or cell.octets (place % 7) 0)
+  octet_answered place cell h is = octet_inside (finished_in ring) place h ∙ ap Ok (sym (octet_value place cell h is))
 
   pub turn_below : (place : ℕ) → place < length (oldest_of (finished_in ring)) → place / 7 < capacity_of ring
   turn_below place h =
@@ -131,37 +130,34 @@ module _ (ring : Ring) where
       omega (arith, length_oldest some, (oldest_first some).within, length_used_cells, ring.within)
 
   -- behind the oldest candidate's last cell the others begin
-  module _ (n place : ℕ) (oldest : Oldest ring n) (after : Turned (capacity_of ring) ring.first n place) where
-    on : round_from place ring.cells.now ≡ drop n (in_turn ring) ++ take n (in_turn ring)
-    on = round_from_on ring.cells.now ring.first n place (omega (arith, oldest.within, ring.within)) after
-
+  module _ (n : ℕ) (oldest : Oldest ring n) where
     fewer : ring.used - n ≤ length (drop n (in_turn ring))
-    fewer = omega (arith, length-drop n (in_turn ring), length_in_turn, ring.within)
+    fewer = omega (arith, length-drop n (in_turn ring), ring.within)
 
     back : n + (ring.used - n) ≡ ring.used
     back = omega (arith, oldest.within)
 
-    rest : take (ring.used - n) (round_from place ring.cells.now) ≡ drop (first_count used_cells) used_cells
+    rest : take (ring.used - n) (round_from n (in_turn ring)) ≡ drop (first_count used_cells) used_cells
     rest =
-        ap (take (ring.used - n)) on ∙ take-append-le (ring.used - n) (drop n (in_turn ring)) (take n (in_turn ring)) fewer
+        take-append-le (ring.used - n) (drop n (in_turn ring)) (take n (in_turn ring)) fewer
         ∙ sym (drop-take n (ring.used - n) (in_turn ring)) ∙ ap (λ k. drop n (take k (in_turn ring))) back ∙ ap (λ k. drop k used_cells) oldest.counted
 
-    open_cells : drop (ring.used - n) (round_from place ring.cells.now) ≡ drop ring.used (in_turn ring) ++ take n (in_turn ring)
+    open_cells : drop (ring.used - n) (round_from n (in_turn ring)) ≡ drop ring.used (in_turn ring) ++ take n (in_turn ring)
     open_cells =
-        ap (drop (ring.used - n)) on ∙ drop-append-le (ring.used - n) (drop n (in_turn ring)) (take n (in_turn ring)) fewer
+        drop-append-le (ring.used - n) (drop n (in_turn ring)) (take n (in_turn ring)) fewer
         ∙ ap (λ l. l ++ take n (in_turn ring)) (drop-drop (ring.used - n) n (in_turn ring) ∙ ap (λ k. drop k (in_turn ring)) back)
 
     same_open : (unfinished : Option ℕ) (cells others : List Cell) → added unfinished ≤ length cells → unfinished_in unfinished (cells ++ others) ≡ unfinished_in unfinished cells
     same_open None cells others h = refl
     same_open (Some k) cells others h = ap (λ l. Some (octets_of l)) (take-append-le k cells others h)
 
-    pub finished_behind : grouped (ring.waiting - 1) (take (ring.used - n) (round_from place ring.cells.now)) ≡ after_release (finished_in ring)
+    pub finished_behind : grouped (ring.waiting - 1) (take (ring.used - n) (round_from n (in_turn ring))) ≡ after_release (finished_in ring)
     finished_behind = ap (grouped (ring.waiting - 1)) rest ∙ sym (ap after_release (oldest_first oldest.some).candidates)
 
-    pub whole_behind : parted (ring.waiting - 1) (take (ring.used - n) (round_from place ring.cells.now)) ≡ true
+    pub whole_behind : parted (ring.waiting - 1) (take (ring.used - n) (round_from n (in_turn ring))) ≡ true
     whole_behind = ap (parted (ring.waiting - 1)) rest ∙ (oldest_first oldest.some).whole
 
-    pub open_behind : unfinished_in ring.unfinished (drop (ring.used - n) (round_from place ring.cells.now)) ≡ opened_in ring
+    pub open_behind : unfinished_in ring.unfinished (drop (ring.used - n) (round_from n (in_turn ring))) ≡ opened_in ring
     open_behind =
         ap (unfinished_in ring.unfinished) open_cells
-        ∙ same_open ring.unfinished (drop ring.used (in_turn ring)) (take n (in_turn ring)) (omega (arith, length-drop ring.used (in_turn ring), length_in_turn, ring.within))
+        ∙ same_open ring.unfinished (drop ring.used (in_turn ring)) (take n (in_turn ring)) (omega (arith, length-drop ring.used (in_turn ring), ring.within))

@@ -1,10 +1,9 @@
 -- A codeblock stored behind the open candidate's cells, and a count in its first cell. Assumes nothing.
-use Rattle.std.proofs.Common.{◌≡◌, ℕ, zero, suc, ◌+◌, ◌<◌, ◌≤◌, true, false, eqb, List, [], ◌∷◌, ◌++◌, length, get_or, take, drop, set, Some, None, Ok, sym, refl, ap, ◌∙◌, ap₂, add-one, arith, take-add}
+use Rattle.std.proofs.Common.{◌≡◌, ℕ, zero, suc, ◌+◌, ◌<◌, ◌≤◌, true, false, eqb, List, [], ◌∷◌, ◌++◌, length, get_or, take, drop, set, slice_get, Some, None, Ok, sym, refl, ap, ◌∙◌, ap₂, add-one, arith, take-add}
 use Rattle.std.proofs.lemmas.Grind.{common_steps}
 use Rattle.std.proofs.lemmas.List.{length-set, length-drop, length-take-le, take-set-le, drop-set, drop-set-add, drop_more, take_more_set, flat_map_more}
 use Rattle.std.proofs.lemmas.Bool.{cond-false, ne_eqb}
-use Rattle.circular.specs.Circle.{round_from, Turned}
-use Rattle.circular.proofs.Rounds.{round_from_set, get_or_turned}
+use Rattle.std.proofs.lemmas.Option.{get_or_from_slice_get}
 use Rattle.hold.specs.Candidates.{Candidate, free_space, add_answer, after_add, finish_answer, open_after_finish, finished_after_finish}
 use Rattle.ring.specs.declared.cells.Cell.{Cell}
 use Rattle.ring.specs.declared.cells.Ring.{Ring}
@@ -12,7 +11,7 @@ use Rattle.ring.specs.Cells.{octets_in, octets_of, first_count, grouped, parted,
 use Rattle.ring.specs.Held.{in_turn, capacity_of, finished_in, opened_in, Open}
 use Rattle.ring.specs.Sound.{length_octets_take}
 use Rattle.ring.proofs.Groups.{shown_plain, octets_in_seven, Behind, behind}
-use Rattle.ring.proofs.Turns.{length_in_turn, finished_is_used, open_is_added, few_wait}
+use Rattle.ring.proofs.Turns.{finished_is_used, open_is_added, few_wait}
 
 -- what finishing makes of a candidate that is not empty
 finish_answered : (candidate : Candidate) → 0 < length candidate → finish_answer (Some candidate) ≡ Ok tt
@@ -33,23 +32,18 @@ same_octets (suc n) x y cells e = ap (λ l. l ++ octets_of (take n cells)) e
 
 module _ (ring : Ring) where
   -- a write behind the finished candidates leaves them as they are
-  finished_stay : (place turn : ℕ) (cell : Cell) → Turned (capacity_of ring) ring.first turn place → ring.used ≤ turn → turn < capacity_of ring →
-      take ring.used (round_from ring.first (set ring.cells.now place cell)) ≡ take ring.used (in_turn ring)
-  finished_stay place turn cell after past h =
-      ap (take ring.used) (round_from_set ring.cells.now ring.first turn place cell h after)
-      ∙ take-set-le ring.used (in_turn ring) turn cell past
+  finished_stay : (turn : ℕ) (cell : Cell) → ring.used ≤ turn → take ring.used (set (in_turn ring) turn cell) ≡ take ring.used (in_turn ring)
+  finished_stay turn cell past = take-set-le ring.used (in_turn ring) turn cell past
 
-  pub finished_stays : (place turn : ℕ) (cell : Cell) → Turned (capacity_of ring) ring.first turn place → ring.used ≤ turn → turn < capacity_of ring →
-      grouped ring.waiting (take ring.used (round_from ring.first (set ring.cells.now place cell))) ≡ finished_in ring
-  finished_stays place turn cell after past h = ap (grouped ring.waiting) (finished_stay place turn cell after past h)
+  pub finished_stays : (turn : ℕ) (cell : Cell) → ring.used ≤ turn → grouped ring.waiting (take ring.used (set (in_turn ring) turn cell)) ≡ finished_in ring
+  finished_stays turn cell past = ap (grouped ring.waiting) (finished_stay turn cell past)
 
-  pub whole_stays : (place turn : ℕ) (cell : Cell) → Turned (capacity_of ring) ring.first turn place → ring.used ≤ turn → turn < capacity_of ring →
-      parted ring.waiting (take ring.used (round_from ring.first (set ring.cells.now place cell))) ≡ true
-  whole_stays place turn cell after past h = ap (parted ring.waiting) (finished_stay place turn cell after past h) ∙ ring.whole
+  pub whole_stays : (turn : ℕ) (cell : Cell) → ring.used ≤ turn → parted ring.waiting (take ring.used (set (in_turn ring) turn cell)) ≡ true
+  whole_stays turn cell past = ap (parted ring.waiting) (finished_stay turn cell past) ∙ ring.whole
 
   -- and no fewer cells
-  pub same_length : (place : ℕ) (cell : Cell) → length (set ring.cells.now place cell) ≡ capacity_of ring
-  same_length place cell = length-set ring.cells.now place cell
+  pub same_length : (turn : ℕ) (cell : Cell) → length (set (in_turn ring) turn cell) ≡ capacity_of ring
+  same_length turn cell = length-set (in_turn ring) turn cell
 
 module _ (ring : Ring) (codeblocks : ℕ) (is_open : ring.unfinished ≡ Some codeblocks) where
   abbrev open_cells : List Cell
@@ -67,24 +61,23 @@ module _ (ring : Ring) (codeblocks : ℕ) (is_open : ring.unfinished ≡ Some co
     pub add_answered : add_answer (capacity_of ring) (finished_in ring) (opened_in ring) ≡ Ok tt
     add_answered = ap (add_answer (capacity_of ring) (finished_in ring)) opened_is ∙ cond-false _ _ _ some_free
 
-    pub stored : (place : ℕ) (cell : Cell) → length cell.octets ≡ 7 → Turned (capacity_of ring) ring.first (ring.used + codeblocks) place →
-        unfinished_in (Some (codeblocks + 1)) (drop ring.used (round_from ring.first (set ring.cells.now place cell))) ≡ after_add plain_showing (capacity_of ring) (finished_in ring) (opened_in ring) cell.octets
-    stored place cell seven after =
+    pub stored : (cell : Cell) → length cell.octets ≡ 7 →
+        unfinished_in (Some (codeblocks + 1)) (drop ring.used (set (in_turn ring) (ring.used + codeblocks) cell)) ≡ after_add plain_showing (capacity_of ring) (finished_in ring) (opened_in ring) cell.octets
+    stored cell seven =
         let candidate = octets_of (take codeblocks open_cells) in
-        let cells = round_from_set ring.cells.now ring.first (ring.used + codeblocks) place cell room after in
         ap (λ l. Some (octets_of l))
-        (ap (λ l. take (codeblocks + 1) (drop ring.used l)) cells ∙ ap (take (codeblocks + 1)) (drop-set-add ring.used (in_turn ring) codeblocks cell)
-        ∙ take_more_set open_cells codeblocks cell (omega (arith, length-drop ring.used (in_turn ring), length_in_turn ring)))
+        (ap (take (codeblocks + 1)) (drop-set-add ring.used (in_turn ring) codeblocks cell)
+        ∙ take_more_set open_cells codeblocks cell (omega (arith, length-drop ring.used (in_turn ring))))
         ∙ ap Some (sym (flat_map_more octets_in [] (take codeblocks open_cells) cell)
         ∙ ap (λ l. candidate ++ l) (octets_in_seven cell seven ∙ sym (shown_plain (length candidate) cell.octets)))
         ∙ sym (ap (λ o. after_add plain_showing (capacity_of ring) (finished_in ring) o cell.octets) opened_is ∙ cond-false _ _ _ some_free)
 
   module _ (some : 0 < codeblocks) where
     within : ring.used + codeblocks ≤ length (in_turn ring)
-    within = omega (arith, ring.within, ap added is_open, length_in_turn ring)
+    within = omega (arith, ring.within, ap added is_open)
 
     pub first_open : ring.used < capacity_of ring
-    first_open = omega (arith, within, length_in_turn ring)
+    first_open = omega (arith, within)
 
     not_empty : 0 < length (octets_of (take codeblocks open_cells))
     not_empty = omega (arith, within, length_octets_take codeblocks open_cells (omega (arith, within, length-drop ring.used (in_turn ring))))
@@ -95,22 +88,18 @@ module _ (ring : Ring) (codeblocks : ℕ) (is_open : ring.unfinished ≡ Some co
     pub closed : open_after_finish (opened_in ring) ≡ None
     closed = ap open_after_finish opened_is ∙ none_open (octets_of (take codeblocks open_cells)) not_empty
 
-    module _ (place : ℕ) (after : Turned (capacity_of ring) ring.first ring.used place) where
-      abbrev old_cell : Cell
-      old_cell = get_or ring.cells.now place (record { octets = []; codeblocks = 0 })
-
+    module _ (old_cell : Cell) (is : slice_get (in_turn ring) ring.used ≡ Some old_cell) where
       abbrev counted_cell : Cell
       counted_cell = record { octets = old_cell.octets; codeblocks = codeblocks }
 
       abbrev last : List Cell
       last = take codeblocks (counted_cell ∷ drop (ring.used + 1) (in_turn ring))
 
-      all_cells : take (ring.used + codeblocks) (round_from ring.first (set ring.cells.now place counted_cell)) ≡ take ring.used (in_turn ring) ++ last
+      all_cells : take (ring.used + codeblocks) (set (in_turn ring) ring.used counted_cell) ≡ take ring.used (in_turn ring) ++ last
       all_cells =
           let round = in_turn ring in
           let used = ring.used in
-          ap (take (used + codeblocks)) (round_from_set ring.cells.now ring.first used place counted_cell first_open after)
-          ∙ take-add used codeblocks (set round used counted_cell)
+          take-add used codeblocks (set round used counted_cell)
           ∙ ap (λ l. l ++ take codeblocks (drop used (set round used counted_cell))) (take-set-le used round used counted_cell (omega arith))
           ∙ ap (λ l. take used round ++ take codeblocks l) (drop-set round used counted_cell (omega (arith, within)))
 
@@ -119,7 +108,7 @@ module _ (ring : Ring) (codeblocks : ℕ) (is_open : ring.unfinished ≡ Some co
           let round = in_turn ring in
           let blank : Cell = record { octets = []; codeblocks = 0 } in
           same_octets codeblocks counted_cell (get_or round ring.used blank) (drop (ring.used + 1) round)
-          (ap octets_in (get_or_turned ring.cells.now ring.first ring.used place blank first_open after))
+          (ap octets_in (sym (get_or_from_slice_get round ring.used old_cell blank is)))
           ∙ ap (λ l. octets_of (take codeblocks l)) (sym (drop_more round ring.used blank (omega (arith, within))))
 
       last_behind : Behind ring.waiting (take ring.used (in_turn ring)) last
@@ -128,13 +117,13 @@ module _ (ring : Ring) (codeblocks : ℕ) (is_open : ring.unfinished ≡ Some co
           let long = length-take-le codeblocks (counted_cell ∷ drop (ring.used + 1) (in_turn ring)) (omega (arith, within, length-drop (ring.used + 1) (in_turn ring))) in
           behind last (omega arith) (first ∙ sym long) ring.waiting (take ring.used (in_turn ring)) ring.whole
 
-      pub counted : grouped (ring.waiting + 1) (take (ring.used + codeblocks) (round_from ring.first (set ring.cells.now place counted_cell))) ≡ finished_after_finish (finished_in ring) (opened_in ring)
+      pub counted : grouped (ring.waiting + 1) (take (ring.used + codeblocks) (set (in_turn ring) ring.used counted_cell)) ≡ finished_after_finish (finished_in ring) (opened_in ring)
       counted =
           ap₂ grouped (add-one ring.waiting) all_cells ∙ last_behind.candidates
           ∙ ap (λ c. finished_in ring ++ c ∷ []) last_octets
           ∙ sym (ap (finished_after_finish (finished_in ring)) opened_is ∙ last_finished (finished_in ring) (octets_of (take codeblocks open_cells)) not_empty)
 
-      pub counted_whole : parted (ring.waiting + 1) (take (ring.used + codeblocks) (round_from ring.first (set ring.cells.now place counted_cell))) ≡ true
+      pub counted_whole : parted (ring.waiting + 1) (take (ring.used + codeblocks) (set (in_turn ring) ring.used counted_cell)) ≡ true
       counted_whole = ap₂ parted (add-one ring.waiting) all_cells ∙ last_behind.whole
 
 pub is_open : (ring : Ring) (codeblocks : ℕ) → ring.unfinished ≡ Some codeblocks → Open ring codeblocks

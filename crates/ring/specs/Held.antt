@@ -3,7 +3,7 @@ use Rattle.std.specs.Prelude.{◌≡◌, ℕ, ◌-◌, ◌*◌, ◌<◌, ◌≤�
 use Rattle.refusals.specs.declared.Refusal.{Refusal}
 use Rattle.refusals.specs.declared.Refusal.TheVariants.{NoCandidate, PastCandidateEnd, NoCandidateOpen}
 use Rattle.hold.specs.Candidates.{Candidate, Sound, ShowsApart, finish_answer, open_after_finish, release_answer, oldest_length, oldest_octet, stretch_answer, after_stretch}
-use Rattle.circular.specs.Circle.{round_from}
+use Rattle.circular.specs.Turns.{in_turn as cells_in_turn}
 use Rattle.ring.specs.declared.cells.Cell.{Cell}
 use Rattle.ring.specs.declared.cells.Ring.{Ring}
 use Rattle.ring.specs.Cells.{first_count, grouped, unfinished_in, plain_showing}
@@ -11,10 +11,10 @@ use Rattle.ring.specs.Sound.{sound_cells}
 
 -- every cell once, those of the oldest candidate first
 abbrev pub in_turn : Ring → List Cell
-in_turn ring = round_from ring.first ring.cells.now
+in_turn ring = cells_in_turn ring.cells
 
 abbrev pub capacity_of : Ring → ℕ
-capacity_of ring = length ring.cells.now
+capacity_of ring = length (in_turn ring)
 
 abbrev pub finished_in : Ring → List Candidate
 finished_in ring = grouped ring.waiting (take ring.used (in_turn ring))
@@ -26,7 +26,7 @@ pub shows_apart : ShowsApart plain_showing
 shows_apart = record { octets = λ place x h. h; apart = λ place x y hx hy e. e }
 
 pub sound_ring : (ring : Ring) → Sound (capacity_of ring) (finished_in ring) (opened_in ring)
-sound_ring ring = sound_cells ring.cells.now ring.first ring.used ring.waiting ring.unfinished ring.within ring.whole ring.most
+sound_ring ring = sound_cells (in_turn ring) ring.used ring.waiting ring.unfinished ring.within ring.whole ring.most
 
 -- how many codeblocks the open candidate has, and what finishing it finds unless it is empty
 pub record Open (ring : Ring) (codeblocks : ℕ) : Type 0 where

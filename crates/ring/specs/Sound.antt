@@ -5,8 +5,6 @@ use Rattle.std.proofs.lemmas.List.{length-take-le, length-drop}
 use Rattle.std.proofs.lemmas.Bool.{and_parts, leb-true, eqb-true}
 use Rattle.hold.specs.Candidates.{finished_codeblocks, open_codeblocks, FinishedWhole, OpenWhole, Sound}
 use Rattle.ring.specs.declared.cells.Cell.{Cell}
-use Rattle.circular.specs.Circle.{round_from}
-use Rattle.circular.proofs.Rounds.{length_round_from}
 use Rattle.ring.specs.Cells.{octets_of, first_count, grouped, parted, added, unfinished_in}
 
 pub length_octets_of : (cells : List Cell) → length (octets_of cells) ≡ 7 * length cells
@@ -52,23 +50,23 @@ pub open_whole_unfinished : (unfinished : Option ℕ) (cells : List Cell) → ad
 open_whole_unfinished None cells h = tt
 open_whole_unfinished (Some n) cells h = omega (arith, length_octets_take n cells h)
 
-module _ (cells : List Cell) (first used waiting : ℕ) (unfinished : Option ℕ) (within : used + added unfinished ≤ length cells) (whole : parted waiting (take used (round_from first cells)) ≡ true) where
-  pub finished_codeblocks_used : finished_codeblocks (grouped waiting (take used (round_from first cells))) ≡ used
+module _ (cells : List Cell) (used waiting : ℕ) (unfinished : Option ℕ) (within : used + added unfinished ≤ length cells) (whole : parted waiting (take used cells) ≡ true) where
+  pub finished_codeblocks_used : finished_codeblocks (grouped waiting (take used cells)) ≡ used
   finished_codeblocks_used =
-      finished_codeblocks_grouped waiting (take used (round_from first cells)) whole
-      ∙ length-take-le used (round_from first cells) (omega (arith, length_round_from cells first))
+      finished_codeblocks_grouped waiting (take used cells) whole
+      ∙ length-take-le used cells (omega arith)
 
-  open_fits : added unfinished ≤ length (drop used (round_from first cells))
-  open_fits = omega (arith, length_round_from cells first, length-drop used (round_from first cells))
+  open_fits : added unfinished ≤ length (drop used cells)
+  open_fits = omega (arith, length-drop used cells)
 
-  pub open_codeblocks_added : open_codeblocks (unfinished_in unfinished (drop used (round_from first cells))) ≡ added unfinished
-  open_codeblocks_added = open_codeblocks_unfinished unfinished (drop used (round_from first cells)) open_fits
+  pub open_codeblocks_added : open_codeblocks (unfinished_in unfinished (drop used cells)) ≡ added unfinished
+  open_codeblocks_added = open_codeblocks_unfinished unfinished (drop used cells) open_fits
 
-  pub sound_cells : length cells ≤ 65535 → Sound (length cells) (grouped waiting (take used (round_from first cells))) (unfinished_in unfinished (drop used (round_from first cells)))
+  pub sound_cells : length cells ≤ 65535 → Sound (length cells) (grouped waiting (take used cells)) (unfinished_in unfinished (drop used cells))
   sound_cells most =
       record {
         within = omega (arith, finished_codeblocks_used, open_codeblocks_added);
         most = most;
-        finished_whole = finished_whole_grouped waiting (take used (round_from first cells)) whole;
-        open_whole = open_whole_unfinished unfinished (drop used (round_from first cells)) open_fits;
+        finished_whole = finished_whole_grouped waiting (take used cells) whole;
+        open_whole = open_whole_unfinished unfinished (drop used cells) open_fits;
       }

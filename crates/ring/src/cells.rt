@@ -1,6 +1,8 @@
 ghost use Rattle.std.specs.Prelude.{◌≡◌, ◌+◌, ◌≤◌, true, length, take};
-ghost use Rattle.circular.specs.Circle.{round_from};
+ghost use Rattle.circular.specs.Turns.{in_turn};
 ghost use Rattle.ring.specs.Cells.{added, parted};
+
+use circular::Circle;
 
 /// Room for one codeblock of a ring.
 #[derive(Clone, Copy)]
@@ -14,17 +16,15 @@ pub struct Cell {
 /// follow one another, and after the last cell comes the first.
 #[derive(Drop)]
 pub struct Ring<'a> {
-    pub(crate) cells: &'a mut [Cell],
-    // The place of the oldest finished candidate's first cell.
-    pub(crate) first: usize,
+    // The cells, those of the oldest finished candidate first.
+    pub(crate) cells: Circle<'a, Cell>,
     // How many cells the finished candidates have.
     pub(crate) used: usize,
     // How many finished candidates wait.
     pub(crate) waiting: usize,
     // How many codeblocks the open candidate has, if one is open.
     pub(crate) unfinished: Option<usize>,
-    ghost most: { length cells.now ≤ 65535 },
-    ghost placed: { first ≤ length cells.now },
-    ghost within: { used + added unfinished ≤ length cells.now },
-    ghost whole: { parted waiting (take used (round_from first cells.now)) ≡ true },
+    ghost most: { length (in_turn cells) ≤ 65535 },
+    ghost within: { used + added unfinished ≤ length (in_turn cells) },
+    ghost whole: { parted waiting (take used (in_turn cells)) ≡ true },
 }

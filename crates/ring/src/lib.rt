@@ -3,12 +3,11 @@
 
 ghost use Rattle.std.specs.Prelude.{◌≡◌, ◌+◌, ◌-◌, ◌<◌, ◌≤◌, min, [], length, Some as present, None as absent, Ok, MatchResult, slice_index};
 ghost use Rattle.randomizer.specs.declared.Randomizer.TheVariants.{Off};
-ghost use Rattle.circular.specs.Circle.{Turned};
 ghost use Rattle.hold.specs.Candidates.{Matches, finished_codeblocks, open_codeblocks, oldest_octet, stretch_answer, after_stretch};
 ghost use Rattle.ring.specs.Cells.{plain_showing, added};
 ghost use Rattle.ring.specs.Held.{capacity_of, finished_in, opened_in, oldest_of, shows_apart, sound_ring, Open, NoneOpen, NoneWaits, Oldest};
 
-use circular::place_after;
+use circular::Circle;
 use hold::Hold;
 use refusals::Refusal;
 
@@ -40,20 +39,11 @@ impl<'a> Ring<'a> {
     {
         let most = cells.len().min(MOST_CELLS);
         Ring {
-            cells: &mut cells[..most],
-            first: 0,
+            cells: Circle::new(&mut cells[..most]),
             used: 0,
             waiting: 0,
             unfinished: None,
         }
-    }
-
-    // The place so many cells after the first cell of the oldest candidate. After the last comes the first.
-    fn place(&self, turn: usize) -> usize
-        ensures place { Turned (capacity_of self.now) self.now.first turn result }
-        ensures within { turn < capacity_of self.now → result < capacity_of self.now }
-    {
-        place_after(self.cells.len(), self.first, turn)
     }
 
     // How many codeblocks are held, finished or open.
@@ -82,7 +72,7 @@ impl<'a> Ring<'a> {
         if self.waiting == 0 {
             return Err(Refusal::NoCandidate);
         }
-        Ok(self.cells[self.place(0)].codeblocks as usize)
+        Ok(self.cells.get(0).unwrap().codeblocks as usize)
     }
 
     // The octet at a place of the oldest finished candidate.
@@ -92,7 +82,7 @@ impl<'a> Ring<'a> {
         ensures value { result ≡ slice_index (oldest_of (finished_in self.now)) place }
         ensures answer { oldest_octet (finished_in self.now) place ≡ Ok result }
     {
-        self.cells[self.place(place / 7)].octets[place % 7]
+        self.cells.get(place / 7).unwrap().octets[place % 7]
     }
 
     // Reads a stretch of the oldest finished candidate, from a place on, into memory that is as long.
@@ -135,12 +125,11 @@ impl<'a> Hold for Ring<'a> {
         if self.held() == self.cells.len() {
             return Err(Refusal::NoFreeSpace);
         }
-        let turn = self.used + codeblocks;
-        let place = self.place(turn);
-        self.cells[place] = Cell {
+        let cell = Cell {
             octets,
             codeblocks: 0,
         };
+        self.cells.set(self.used + codeblocks, cell);
         self.unfinished = Some(codeblocks + 1);
         Ok(())
     }
@@ -151,9 +140,9 @@ impl<'a> Hold for Ring<'a> {
         if codeblocks == 0 {
             return Err(Refusal::CandidateEmpty);
         }
-        let used = self.used;
-        let place = self.place(used);
-        self.cells[place].codeblocks = codeblocks as u16;
+        let mut cell = *self.cells.get(self.used).unwrap();
+        cell.codeblocks = codeblocks as u16;
+        self.cells.set(self.used, cell);
         self.used += codeblocks;
         self.waiting += 1;
         self.unfinished = None;
@@ -161,15 +150,14 @@ impl<'a> Hold for Ring<'a> {
     }
 
     fn abandon(&mut self) -> Result<(), Refusal> {
-        let _ = self.unfinished_codeblocks()?;
-        self.unfinished = None;
+        self.unfinished.take().ok_or(Refusal::NoCandidateOpen)?;
         Ok(())
     }
 
-    #[tactic(auto, using(crate::proofs::Turns::finished_behind, crate::proofs::Turns::whole_behind, crate::proofs::Turns::open_behind))]
+    #[tactic(auto, using(crate::proofs::Turns::finished_behind, crate::proofs::Turns::whole_behind, crate::proofs::Turns::open_behind, crate::proofs::Turns::as_many))]
     fn release(&mut self) -> Result<(), Refusal> {
         let codeblocks = self.oldest()?;
-        self.first = self.place(codeblocks);
+        self.cells.advance(codeblocks);
         self.used -= codeblocks;
         self.waiting -= 1;
         Ok(())

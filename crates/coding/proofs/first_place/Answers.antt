@@ -1,20 +1,10 @@
--- What `first_place` leaves to show: the turns of its loop over the degrees, and the laws of the place that it finds. Assumes nothing.
-use Rattle.std.proofs.Common.{◌≡◌, ℕ, suc, ◌-◌, ◌*◌, ◌%◌, ◌<◌, Some, None, Option, sym, refl, ap, ◌∙◌, subst, add-one, arith}
+-- What `first_place` leaves to show: the turns of its loop over the degrees. Assumes nothing.
+use Rattle.std.proofs.Common.{◌≡◌, suc, ◌-◌, ◌*◌, ◌%◌, ◌<◌, sym, refl, ap, ◌∙◌, subst, add-one, arith}
 use Rattle.bch.specs.Polynomial.{divided, remainder}
 use Rattle.bch.specs.Reception.{syndrome_polynomial, place_from}
-use Rattle.bch.specs.Laws.{IsTheWrongPlace, AbsentOnlyAtZero}
-use Rattle.bch.proofs.Places.{place_here, place_later, is_the_wrong_place, absent_only_at_zero}
+use Rattle.bch.proofs.Places.{place_here, place_later}
 use Rattle.coding.proofs.Received.{next_power, power_below}
 use Rattle.coding.proofs.first_place.Goals as goal
-
--- what is found among all 63 degrees has the laws of the wrong place
-with_laws : (number degrees : ℕ) (r : Option ℕ) → r ≡ place_from 0 degrees number → record { value : r ≡ place_from 0 degrees number; place : degrees ≡ 63 → IsTheWrongPlace number r; absent : degrees ≡ 63 → AbsentOnlyAtZero number r }
-with_laws number degrees r value =
-    record {
-      value = value;
-      place = λ all. subst (IsTheWrongPlace number) (sym (value ∙ ap (λ k. place_from 0 k number) all)) (is_the_wrong_place number);
-      absent = λ all. subst (AbsentOnlyAtZero number) (sym (value ∙ ap (λ k. place_from 0 k number) all)) (absent_only_at_zero number);
-    }
 
 pub loop-degree-init : goal.loop-degree-init
 unfolding divided
@@ -25,8 +15,7 @@ returns-then-power-number c =
     let inv = c.loop-degree.invariant in
     let d = c.loop-degree.degree in
     let one_more : c.args.degrees - d ≡ suc (c.args.degrees - suc d) = omega arith in
-    with_laws c.args.number c.args.degrees (Some d)
-    (sym (sym inv.2 ∙ ap (λ k. place_from d k c.args.number) one_more ∙ place_here d (c.args.degrees - suc d) c.args.number (sym inv.0 ∙ c.if-power-number.true)))
+    sym (sym inv.2 ∙ ap (λ k. place_from d k c.args.number) one_more ∙ place_here d (c.args.degrees - suc d) c.args.number (sym inv.0 ∙ c.if-power-number.true))
 
 pub loop-degree-preserved : goal.loop-degree-preserved
 loop-degree-preserved c =
@@ -45,4 +34,4 @@ returns c =
     let inv = c.loop-degree.invariant in
     let d = c.loop-degree.degree in
     let none_left : c.args.degrees - d ≡ 0 = omega arith in
-    with_laws c.args.number c.args.degrees None (sym (sym inv.2 ∙ ap (λ k. place_from d k c.args.number) none_left))
+    sym (sym inv.2 ∙ ap (λ k. place_from d k c.args.number) none_left)

@@ -6,7 +6,7 @@ use Rattle.bch.specs.Reception.{syndrome_polynomial}
 use Rattle.bch.proofs.Division.{divided_low}
 use Rattle.bch.proofs.Syndromes.{number_of_remainder}
 use Rattle.coding.proofs.Received.{reduced_once}
-use Rattle.coding.proofs.coefficients.Coefficients.reduced.Goals as goal
+use Rattle.coding.proofs.Coefficients.reduced.Goals as goal
 
 number : (r s : ℕ) → s ≡ remainder syndrome_polynomial 6 r → (p : ℕ) → p < 2 ^ 63 → r ≡ remainder generator 7 p → s ≡ remainder syndrome_polynomial 6 p
 number r s e p small is = e ∙ ap (remainder syndrome_polynomial 6) is ∙ sym (number_of_remainder p small)

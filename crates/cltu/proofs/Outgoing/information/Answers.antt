@@ -1,7 +1,7 @@
 -- Seven octets of the filled and randomized frame. Assumes nothing.
 use Rattle.std.proofs.Common.{arith}
 use Rattle.cltu.proofs.Places.{seven_sent}
-use Rattle.cltu.proofs.outgoing.Outgoing.information.Goals as goal
+use Rattle.cltu.proofs.Outgoing.information.Goals as goal
 
 pub returns : goal.returns
 returns c =

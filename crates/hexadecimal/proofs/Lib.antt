@@ -1,0 +1,2 @@
+-- The law that `capitals` proves. Assumes nothing.
+mod ReadBack
