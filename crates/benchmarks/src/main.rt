@@ -4,7 +4,7 @@
 use bch::{Accepted, Mode};
 use cltu::{CodeblockLimit, LONGEST_CLTU, Sender};
 use coding::{codeblock, judge};
-use command_line::{Program, Task};
+use command_line::{Program, Task, arguments};
 use decoding::Settings;
 use hold::{Hold, copy_oldest};
 use queue::Queue;
@@ -754,5 +754,5 @@ fn asked_task(argument: &str) -> Option<Task<()>> {
 }
 
 fn main(rt: HostRuntime) -> anyhow::Result<ExitCode> {
-    PROGRAM.run(&rt, Task::Help, asked_task, |()| time(&rt))
+    PROGRAM.run(&rt, arguments(&rt), Task::Help, asked_task, |()| time(&rt))
 }

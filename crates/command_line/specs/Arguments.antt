@@ -1,4 +1,4 @@
--- What a program's arguments ask it for.
+-- What a program's only argument asks it for, and how the line of an error begins. Assumes nothing.
 use Rattle.std.specs.Prelude.{ℕ, List, [], ◌∷◌, Option, Some, None, Result, Ok, Err, codes}
 use Rattle.command_line.specs.declared.ArgumentError.{ArgumentError}
 use Rattle.command_line.specs.declared.ArgumentError.TheVariants.{Unknown, TooMany}

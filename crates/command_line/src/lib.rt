@@ -1,7 +1,7 @@
 //! What the programs share: the one argument that each may have, and how a run of one ends.
 #![tactic(auto)]
 
-ghost use Rattle.std.specs.Prelude.{◌≡◌, ◌⊎◌, ℕ, List, Result, Some, map, string_bytes, IfOk};
+ghost use Rattle.std.specs.Prelude.{◌≡◌, Result, Some, map, string_bytes, IfOk, MatchResult};
 ghost use Rattle.std.specs.Process.{exit_status};
 ghost use Rattle.command_line.specs.Arguments.{error_text};
 ghost use Rattle.command_line.specs.Asked.{Asks, EndsWith, Ends, status_of};
@@ -29,7 +29,7 @@ pub enum ArgumentError {
     TooMany,
 }
 
-/// As far as the program's list of its arguments, which stands behind it.
+/// How the line of an error begins: the program's list of its arguments follows.
 impl fmt::Display for ArgumentError {
     ghost output = { λ e. Some (error_text e) };
 
@@ -74,7 +74,9 @@ pub fn status<R: Eprint>(rt: &R, done: anyhow::Result<()>) -> anyhow::Result<Exi
     }
 }
 
-fn arguments<R: Env + AllocGlobal>(rt: &R) -> anyhow::Result<Vec<String>> {
+/// The arguments that a program was called with, without its own name. Which these are is the system's to say,
+/// and no contract can.
+pub fn arguments<R: Env + AllocGlobal>(rt: &R) -> anyhow::Result<Vec<String>> {
     Ok(env::args(rt)?.skip(1).collect(rt.alloc())?)
 }
 
@@ -90,33 +92,33 @@ pub struct Program<'a> {
 }
 
 impl Program<'_> {
-    /// Runs the program on the arguments that it was called with, as `run_on` does. Where they cannot be read
-    /// that is an error like any other.
+    /// Runs the program on these arguments: its work, or its help. The status is 0 where the work went well,
+    /// and 1 where it did not, where the arguments ask for nothing or could not be read, or where the help
+    /// could not be printed.
     pub fn run<R, T, F, W>(
         &self,
         rt: &R,
+        arguments: anyhow::Result<Vec<String>>,
         unasked: Task<T>,
         read: F,
         work: W,
     ) -> anyhow::Result<ExitCode>
     where
-        R: Env + AllocGlobal + Print + Eprint,
+        R: Print + Eprint,
         T: Drop,
         F: FnOnce(&str) -> Option<Task<T>>,
         W: FnOnce(T) -> anyhow::Result<()>,
         requires reads { F.IsAlwaysCallable read }
         requires works { W.IsAlwaysCallable work }
-        ensures { IfOk result (λ status. (exit_status status ≡ 1) ⊎ ((arguments : List (List ℕ)) × Ends F.FnOnce W.FnOnce read work unasked arguments (exit_status status))) }
+        ensures { IfOk result (λ status. MatchResult arguments (λ given. Ends F.FnOnce W.FnOnce read work unasked (map string_bytes given.items) (exit_status status)) (λ _. exit_status status ≡ 1)) }
     {
-        match arguments(rt) {
-            Ok(arguments) => self.run_on(rt, arguments.as_slice(), unasked, read, work),
+        match arguments {
+            Ok(given) => self.run_on(rt, given.as_slice(), unasked, read, work),
             Err(e) => status(rt, Err(e)),
         }
     }
 
-    /// Runs the program on these arguments: its work, or its help. The status is 0 where the work went well,
-    /// and 1 where it did not, where the arguments ask for nothing, or where the help could not be printed.
-    pub fn run_on<R, T, F, W>(
+    fn run_on<R, T, F, W>(
         &self,
         rt: &R,
         arguments: &[String],

@@ -2,7 +2,7 @@
 #![tactic(auto)]
 
 use cltu::{CodeblockLimit, Sender};
-use command_line::{Program, Task};
+use command_line::{Program, Task, arguments};
 use frame_lines::{Answer, answer_line};
 use randomizer::Randomizer;
 use std::io::{BufRead, BufReader, Read};
@@ -84,7 +84,11 @@ fn line_text(line: &[u8]) -> &[u8] {
 }
 
 fn main(rt: HostRuntime) -> anyhow::Result<ExitCode> {
-    PROGRAM.run(&rt, Task::Work(Randomizer::Off), asked_task, |randomizer| {
-        encode(&rt, rt.stdin(), randomizer)
-    })
+    PROGRAM.run(
+        &rt,
+        arguments(&rt),
+        Task::Work(Randomizer::Off),
+        asked_task,
+        |randomizer| { encode(&rt, rt.stdin(), randomizer) },
+    )
 }

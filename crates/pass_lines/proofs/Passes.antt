@@ -129,9 +129,6 @@ passed_then hold es fs a b c first second =
 pub passed_as : {X : Type 0} {hold : Ghosts X} {es fs : List Event} {a b : Receiving X hold} → es ≡ fs → Passed hold es a b → Passed hold fs a b
 passed_as {X} {hold} {es} {fs} {a} {b} same passed = subst (λ l. Passed hold l a b) same passed
 
-pub passed_none : {X : Type 0} (hold : Ghosts X) (a : Receiving X hold) → Passed hold [] a a
-passed_none hold a = record { goes_on = record { settings = refl; come = refl } }
-
 pub one_more_symbol : (bits : List Bool) (bit : Bool) → symbol_events bits ++ symbol bit ∷ [] ≡ symbol_events (bits ++ bit ∷ [])
 one_more_symbol bits bit = sym (events_append bits (bit ∷ []))
 

@@ -1,5 +1,5 @@
 -- A record whose entries are right so far, entry by entry. Assumes nothing.
-use Rattle.std.proofs.Common.{◌≡◌, ℕ, ◌+◌, ◌-◌, ◌*◌, ◌%◌, ◌^◌, ◌<◌, ◌≤◌, Bool, List, [], ◌∷◌, ◌++◌, length, get_or, take, drop, sym, refl, ap, ◌∙◌, subst, ap₂, zero-add, arith, take-add}
+use Rattle.std.proofs.Common.{◌≡◌, ℕ, ◌+◌, ◌-◌, ◌*◌, ◌%◌, ◌^◌, ◌<◌, ◌≤◌, Bool, List, [], ◌∷◌, ◌++◌, length, get_or, take, drop, sym, ap, ◌∙◌, subst, ap₂, zero-add, arith, take-add}
 use Rattle.std.specs.List.{flat_map, AllByRecursion}
 use Rattle.std.proofs.lemmas.List.FromFn.{length-map-range_with_len, take-map-range_with_len, map-range_with_len_more}
 use Rattle.std.proofs.lemmas.Grind.{flat_map-append}
@@ -17,9 +17,6 @@ pub record LaidTo (octets : List ℕ) (i place : ℕ) : Type 0 where
   pub symbols : take place octets ≡ flat_map packed (first_segments octets i)
   pub table : take (8 * i) (drop (told_place octets) octets) ≡ entries 0 (first_segments octets i)
   pub some : AllByRecursion (λ segment. 0 < length segment) (first_segments octets i)
-
-pub laid_none : (octets : List ℕ) → LaidTo octets 0 0
-laid_none octets = record { within = omega arith; symbols = refl; table = refl; some = tt }
 
 module _ (octets : List ℕ) (fits : (k : ℕ) → get_or octets k 0 < 256) (end : RightEnd octets) where
   place_most : told_place octets ≤ length octets

@@ -1,7 +1,7 @@
 //! `receive`: a pass record in, reports and candidates out, one line each.
 #![tactic(auto)]
 
-use command_line::{Program, Task};
+use command_line::{Program, Task, arguments};
 use pass_lines::answer_record;
 use std::io::Read;
 use std::process::ExitCode;
@@ -61,6 +61,7 @@ fn receive(rt: &(impl Print + AllocGlobal), input: impl Read + Drop) -> anyhow::
 fn main(rt: HostRuntime) -> anyhow::Result<ExitCode> {
     PROGRAM.run(
         &rt,
+        arguments(&rt),
         Task::Work(()),
         asked_task,
         |()| receive(&rt, rt.stdin()),
