@@ -4,7 +4,7 @@
 ghost use Rattle.std.specs.Prelude.{◌≡◌, ◌+◌, ◌*◌, ◌<◌, ◌≤◌, length, take, drop, slice_index};
 ghost use Rattle.randomizer.specs.Sequence.{randomized};
 ghost use Rattle.cltu.specs.Cltu.{codeblocks_for, LeastThatHolds, filled, coded, cltu};
-ghost use Rattle.cltu.specs.Writing.{frame_refused, writing_answer, memory_after};
+ghost use Rattle.cltu.specs.Writing.{frame_refused, length_answer, LengthOf, writing_answer, memory_after};
 
 use coding::codeblock;
 use randomizer::Randomizer;
@@ -62,14 +62,6 @@ impl<'a> Outgoing<'a> {
             randomizer,
             codeblocks: codeblocks_for(frame.len()),
         }
-    }
-
-    /// How many octets the CLTU has.
-    fn cltu_octets(&self) -> usize
-        ensures length { result ≡ length (cltu self.now.randomizer self.now.frame.now) }
-        ensures number { result ≡ 10 + 8 * self.now.codeblocks }
-    {
-        START_SEQUENCE.len() + 8 * self.codeblocks + TAIL_SEQUENCE.len()
     }
 
     // The octet at a place of the filled and randomized frame.
@@ -131,6 +123,19 @@ impl Sender {
         !(1..=1024).contains(&octets) || octets > 7 * self.limit.count()
     }
 
+    /// How many octets the CLTU of a frame of so many octets has. Refused with 1 where the frame is empty, has
+    /// more than 1,024 octets or more than the limit's codeblocks hold.
+    #[tactic(auto, using(crate::proofs::Places::length_cltu))]
+    pub fn cltu_length(self, octets: usize) -> Result<usize, Refusal>
+        ensures answer { result ≡ length_answer self octets }
+        ensures length { LengthOf self octets result }
+    {
+        if self.refuses(octets) {
+            return Err(Refusal::FrameLength);
+        }
+        Ok(START_SEQUENCE.len() + 8 * codeblocks_for(octets) + TAIL_SEQUENCE.len())
+    }
+
     /// Writes the CLTU of a frame at the front of the memory and answers how many octets it has.
     /// Refused with 1 where the frame is empty, has more than 1,024 octets or more than the limit's
     /// codeblocks hold, and with 2 where the memory is too short; then the memory is as it was.
@@ -138,15 +143,11 @@ impl Sender {
         ensures answer { result ≡ writing_answer self frame.now memory.old }
         ensures memory { memory.new ≡ memory_after self frame.now memory.old result }
     {
-        if self.refuses(frame.len()) {
-            return Err(Refusal::FrameLength);
-        }
-        let outgoing = Outgoing::new(frame, self.randomizer);
-        let octets = outgoing.cltu_octets();
+        let octets = self.cltu_length(frame.len())?;
         if memory.len() < octets {
             return Err(Refusal::MemoryTooShort);
         }
-        outgoing.put_cltu(&mut memory[..octets]);
+        Outgoing::new(frame, self.randomizer).put_cltu(&mut memory[..octets]);
         Ok(octets)
     }
 }

@@ -1,5 +1,5 @@
 -- What waits in a queue's slots, after a put and after a take. Assumes nothing.
-use Rattle.std.proofs.Common.{◌≡◌, ℕ, zero, suc, ◌+◌, ◌-◌, ◌<◌, ◌≤◌, List, [], ◌∷◌, ◌++◌, length, take, set, slice_get, Some, sym, ap, ◌∙◌, ap₂, arith}
+use Rattle.std.proofs.Common.{◌≡◌, ℕ, zero, suc, ◌+◌, ◌-◌, ◌<◌, ◌≤◌, List, [], ◌∷◌, ◌++◌, length, take, set, slice_get, Some, None, sym, refl, ap, ◌∙◌, ap₂, arith}
 use Rattle.std.proofs.lemmas.List.{length-take-le, take-append-le, take_more_set}
 use Rattle.std.proofs.lemmas.Option.{get_or_from_slice_get}
 use Rattle.circular.specs.Circle.{round_from}
@@ -24,3 +24,12 @@ module _ {X : Type 0} where
 
   pub as_many : (xs : List X) (turns : ℕ) → length (round_from turns xs) ≡ length xs
   as_many xs turns = length_round_from xs turns
+
+  -- the first of those that wait is the first of all
+  pub oldest_in_front : (xs : List X) (n : ℕ) → 0 < n → slice_get xs 0 ≡ slice_get (take n xs) 0
+  oldest_in_front xs zero some = absurd (omega arith)
+  oldest_in_front [] (suc n) some = refl
+  oldest_in_front (y ∷ ys) (suc n) some = refl
+
+  pub none_in_front : (xs : List X) (n : ℕ) → n ≡ 0 → slice_get (take n xs) 0 ≡ None
+  none_in_front xs n e = ap (λ n. slice_get (take n xs) 0) e

@@ -1,5 +1,5 @@
 -- The records that wait in a queue, and what a put and a take make of them. Assumes nothing.
-use Rattle.std.specs.Prelude.{◌≡◌, ℕ, ◌<◌, List, [], ◌∷◌, ◌++◌, length, take}
+use Rattle.std.specs.Prelude.{◌≡◌, ℕ, ◌<◌, List, [], ◌∷◌, ◌++◌, length, take, Option, slice_get}
 use Rattle.refusals.specs.declared.Refusal.{Refusal}
 use Rattle.refusals.specs.declared.Refusal.TheVariants.{QueueFull, QueueEmpty}
 use Rattle.circular.specs.Turns.{in_turn}
@@ -13,6 +13,10 @@ module _ {X : Type 0} where
   -- how many records can wait at once
   abbrev pub capacity : Queue X → ℕ
   capacity q = length (in_turn q.slots)
+
+  -- the record that waits longest, or none
+  abbrev pub front : List X → Option X
+  front records = slice_get records 0
 
   -- what a put that is accepted found and leaves
   pub record Put (before : Queue X) (x : X) (after : Queue X) : Type 0 where

@@ -2,7 +2,8 @@
 #![tactic(auto)]
 
 ghost use Rattle.std.specs.Prelude.{◌≡◌, ◌≤◌, [], length, MatchResult};
-ghost use Rattle.queue.specs.Waiting.{waiting, capacity, Put, RefusedFull, Taken, RefusedEmpty};
+ghost use Rattle.std.specs.Option.{option_copied};
+ghost use Rattle.queue.specs.Waiting.{waiting, capacity, front, Put, RefusedFull, Taken, RefusedEmpty};
 
 use circular::Circle;
 use refusals::Refusal;
@@ -37,6 +38,17 @@ impl<'a, T: Copy> Queue<'a, T> {
         ensures within { result ≤ capacity self.now }
     {
         self.count
+    }
+
+    /// The record that waits longest, which stays. `None` where none waits.
+    #[tactic(auto, using(crate::proofs::Turns::oldest_in_front, crate::proofs::Turns::none_in_front))]
+    pub fn front(&self) -> Option<&T>
+        ensures { option_copied result ≡ front (waiting self.now) }
+    {
+        if self.count == 0 {
+            return None;
+        }
+        self.slots.get(0)
     }
 
     /// Puts a record behind all that wait. Refused with `QueueFull` exactly where as many records wait
@@ -99,6 +111,7 @@ mod tests {
         }
         for number in 4..12 {
             assert!(rt; queue.put(numbered(number)) == Err(Refusal::QueueFull));
+            assert!(rt; queue.front().map(|sample| sample.number) == Some(number - 3));
             let oldest = queue.take()?;
             assert!(rt; oldest.number == number - 3 && oldest.odd == (number % 2 == 0));
             queue.put(numbered(number))?;

@@ -99,7 +99,7 @@ module _ (settings : Settings) (showing : Showing) where
   few release [] = omega arith
   few release (c ∷ cs) = omega arith
 
-  run_keeps : (s : State) (es : List Event) →
+  pub run_keeps : (s : State) (es : List Event) →
       (after_events settings showing s es).held.finished ≡ drop (releases_accepted settings showing s es) (s.held.finished ++ new_candidates settings showing s es)
   run_keeps s [] = sym (append-nil s.held.finished)
   run_keeps s (e ∷ es) =

@@ -72,3 +72,11 @@ module _ (settings : Settings) (showing : Showing) where
 
   pub kept_from_making : (hold : Held) (es : List Event) → KeptState L (after_events settings showing (made hold) es)
   kept_from_making hold es = run_keeps (made hold) es refl
+
+  pub none_open_in_inactive : (hold : Held) (es : List Event) → (after_events settings showing (made hold) es).phase ≡ INACTIVE → (after_events settings showing (made hold) es).held.opened ≡ None
+  none_open_in_inactive hold es inactive = let s = after_events settings showing (made hold) es in by s.phase s.held inactive (kept_from_making hold es)
+    where
+      by : (p : Phase) (h : Held) → p ≡ INACTIVE → Kept L p h → h.opened ≡ None
+      by INACTIVE h e kept = kept
+      by (SEARCH count window) h e kept = kept.0
+      by (DECODE count word k) h e kept = absurd (let z : ◌≡◌ {A = ℕ} 0 1 = cc in omega arith)

@@ -14,7 +14,7 @@ use Rattle.reception.specs.Runs.{after_events, symbols_in, CarrierStaysUp, Nothi
 use Rattle.reception.specs.Allowance.{value, ReceivedCltu, symbols_of, WithinAllowance}
 use Rattle.reception.specs.Promise.{announced, new_candidates, IdleOrNothing, CarrierUpMakesItReady, CarrierStaysDown, CarrierBreak, Transmission, information_sent, events_of, WellSent, FollowOneAnother, SentFrom, WhatIsSentThenIsReceived}
 use Rattle.reception.proofs.Decoding.{length_shown_from}
-use Rattle.reception.proofs.Kept.{Kept, kept_from_making}
+use Rattle.reception.proofs.Kept.{none_open_in_inactive}
 use Rattle.reception.proofs.Idle.{idle_is_no_start, idle_goes_in}
 use Rattle.reception.proofs.Brings.{same_first, Brings, split, Released, released_none, released_more, after_append, new_append, word_comes}
 use Rattle.reception.proofs.Starts.{Follows}
@@ -166,14 +166,14 @@ module _ (settings : Settings) (showing : Showing) where
     pub opened : hold.opened ≡ h.opened
     pub new : new_candidates settings showing (state INACTIVE h) es ≡ []
 
-  away_comes : (es : List Event) (h : Held) → CarrierStaysDown es → AwayIn h es
+  pub away_comes : (es : List Event) (h : Held) → CarrierStaysDown es → AwayIn h es
   away_comes [] h down = record { hold = h; after = refl; opened = refl; new = refl }
   away_comes (carrier_up ∷ es) h down = absurd down
   away_comes (carrier_down ∷ es) h down = let w = away_comes es h down in record { hold = w.hold; after = w.after; opened = w.opened; new = w.new }
   away_comes (symbol b ∷ es) h down = let w = away_comes es h down in record { hold = w.hold; after = w.after; opened = w.opened; new = w.new }
   away_comes (release ∷ es) h down = let w = away_comes es _ down in record { hold = w.hold; after = w.after; opened = w.opened; new = w.new }
 
-  idle_gap : (es : List Event) (h : Held) → h.opened ≡ None → IdleOrNothing es → CalmIn (state (SEARCH 0 0) h) es
+  pub idle_gap : (es : List Event) (h : Held) → h.opened ≡ None → IdleOrNothing es → CalmIn (state (SEARCH 0 0) h) es
   idle_gap es h none (up, run) = idle_comes es run.0 run.1 0 0 h none (empty_window run.0) up run.2
 
   break_gap : (es : List Event) (h : Held) → h.opened ≡ None → CarrierBreak es → CalmIn (state (SEARCH 0 0) h) es
@@ -201,15 +201,9 @@ module _ (settings : Settings) (showing : Showing) where
   pub carrier_up_makes_it_ready : CarrierUpMakesItReady settings showing
   carrier_up_makes_it_ready hold earlier later inactive gap =
       let then = after_events settings showing (made hold) earlier in
-      let none = closed then.phase then.held inactive (kept_from_making settings showing hold earlier) in
-      let w = idle_gap later then.held none gap in
+      let w = idle_gap later then.held (none_open_in_inactive settings showing hold earlier inactive) gap in
       let there = ap (λ p. after_events settings showing (at_up p then.held).after later) inactive ∙ w.after in
       subst (λ s. Clear s.phase s.held) (sym there) (w.opened, (w.next, w.calm))
-    where
-      closed : (p : Phase) (h : Held) → p ≡ INACTIVE → Kept settings.limit p h → h.opened ≡ None
-      closed INACTIVE h e kept = kept
-      closed (SEARCH c v) h e kept = kept.0
-      closed (DECODE c v k) h e kept = absurd (let z : ◌≡◌ {A = ℕ} 0 1 = cc in omega arith)
 
   gap_comes : (es : List Event) (h : Held) → h.opened ≡ None → IdleOrNothing es ⊎ CarrierBreak es → CalmIn (state (SEARCH 0 0) h) es
   gap_comes es h none (inl gap) = idle_gap es h none gap
@@ -228,7 +222,7 @@ under_fill (suc n) = (omega arith, under_fill n)
 pub under_filled : (frame : List ℕ) → AllBelowBase 256 frame → AllBelowBase 256 (filled frame)
 under_filled frame h = under_append frame (replicate (fill_for (length frame)) 0x55) h (under_fill (fill_for (length frame)))
 
-shown_back : (showing : Showing) (r : Randomizer) → Matches showing r → (place : ℕ) (xs : List ℕ) → AllBelowBase 256 xs → shown_from showing place (randomized_from r place xs) ≡ xs
+pub shown_back : (showing : Showing) (r : Randomizer) → Matches showing r → (place : ℕ) (xs : List ℕ) → AllBelowBase 256 xs → shown_from showing place (randomized_from r place xs) ≡ xs
 shown_back showing r matches place [] h = refl
 shown_back showing r matches place (x ∷ xs) h = ap₂ ◌∷◌ (matches place x h.0) (shown_back showing r matches (suc place) xs h.1)
 
@@ -240,7 +234,7 @@ module _ (settings : Settings) (showing : Showing) (randomizer : Randomizer) whe
   news = new_candidates settings showing
 
   -- one CLTU that comes where nothing but idle is in the window
-  one_well_sent : (s : State) (next : Bool) (count window : ℕ) (h : Held) (t : Transmission) → s ≡ state (SEARCH count window) h → h.opened ≡ None → NothingButIdle next count window → WellSent settings showing randomizer s t →
+  pub one_well_sent : (s : State) (next : Bool) (count window : ℕ) (h : Held) (t : Transmission) → s ≡ state (SEARCH count window) h → h.opened ≡ None → NothingButIdle next count window → WellSent settings showing randomizer s t →
       OneIn settings showing s (information_sent randomizer t) t.events
   one_well_sent s next count window h t is none calm well =
       subst (λ u. OneIn settings showing u (information_sent randomizer t) t.events) (sym is)

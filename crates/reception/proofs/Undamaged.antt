@@ -40,7 +40,7 @@ value_of : (xs : List ℕ) (w : ℕ) → AllBelowBase 256 xs → value_from w (b
 value_of [] w h = refl
 value_of (x ∷ xs) w h = value_octet w x (bits_of xs) h.0 ∙ value_of xs (w * 256 + x) h.1
 
-bits_append : (xs ys : List ℕ) → bits_of (xs ++ ys) ≡ bits_of xs ++ bits_of ys
+pub bits_append : (xs ys : List ℕ) → bits_of (xs ++ ys) ≡ bits_of xs ++ bits_of ys
 bits_append [] ys = refl
 bits_append (x ∷ xs) ys = ap (λ l. octet_bits x ++ l) (bits_append xs ys) ∙ sym (append_assoc (octet_bits x) (bits_of xs) (bits_of ys))
 
@@ -52,7 +52,7 @@ joined_blocks : (n : ℕ) (octets : List ℕ) → flat_map (λ block. block) (bl
 joined_blocks zero octets = refl
 joined_blocks (suc n) octets = ap (λ l. bits_of (codeblock (take 7 octets)) ++ l) (joined_blocks n (drop 7 octets)) ∙ sym (bits_append (codeblock (take 7 octets)) (coded n (drop 7 octets)))
 
-length_blocks : (n : ℕ) (octets : List ℕ) → length (blocks_of n octets) ≡ n
+pub length_blocks : (n : ℕ) (octets : List ℕ) → length (blocks_of n octets) ≡ n
 length_blocks zero octets = refl
 length_blocks (suc n) octets = ap suc (length_blocks n (drop 7 octets))
 
@@ -87,8 +87,13 @@ tail_undamaged : wrong_bits (number_from_digits 256 tail_sequence) (value (bits_
 unfolding weight
 tail_undamaged = refl
 
+pub symbols_undamaged : (randomizer : Randomizer) (frame : List ℕ) → bits_of (cltu randomizer frame) ≡ symbols_of (undamaged randomizer frame)
+symbols_undamaged randomizer frame =
+    let blocks = coded (codeblocks_for (length frame)) (randomized randomizer (filled frame)) in
+    bits_append start_sequence (blocks ++ tail_sequence) ∙ ap (λ l. bits_of start_sequence ++ l) (bits_append blocks tail_sequence ∙ ap (λ l. l ++ bits_of tail_sequence) (sym (joined_blocks (codeblocks_for (length frame)) (randomized randomizer (filled frame)))))
+
 module _ (settings : Settings) (showing : Showing) (randomizer : Randomizer) where
-  within_undamaged : (frame : List ℕ) → AllBelowBase 256 frame → 1 ≤ length frame → codeblocks_for (length frame) ≤ settings.limit → WithinAllowance settings (randomized randomizer (filled frame)) (undamaged randomizer frame)
+  pub within_undamaged : (frame : List ℕ) → AllBelowBase 256 frame → 1 ≤ length frame → codeblocks_for (length frame) ≤ settings.limit → WithinAllowance settings (randomized randomizer (filled frame)) (undamaged randomizer frame)
   within_undamaged frame octets some few =
       let n = codeblocks_for (length frame) in
       let sent_octets = randomized randomizer (filled frame) in
@@ -104,16 +109,11 @@ module _ (settings : Settings) (showing : Showing) (randomizer : Randomizer) whe
         tail_right = omega (arith, tail_undamaged);
       }
 
-  symbols_undamaged : (frame : List ℕ) → bits_of (cltu randomizer frame) ≡ symbols_of (undamaged randomizer frame)
-  symbols_undamaged frame =
-      let blocks = coded (codeblocks_for (length frame)) (randomized randomizer (filled frame)) in
-      bits_append start_sequence (blocks ++ tail_sequence) ∙ ap (λ l. bits_of start_sequence ++ l) (bits_append blocks tail_sequence ∙ ap (λ l. l ++ bits_of tail_sequence) (sym (joined_blocks (codeblocks_for (length frame)) (randomized randomizer (filled frame)))))
-
   pub undamaged_comes_back : UndamagedComesBack settings showing randomizer
   undamaged_comes_back hold earlier later frame clear octets some few space up symbols matches =
       let then = after_events settings showing (made hold) earlier in
       let n = codeblocks_for (length frame) in
       let t : Transmission = record { gap = []; frame = frame; received = undamaged randomizer frame; events = later } in
-      let well : WellSent settings showing randomizer then t = record { octets = octets; carrier = up; symbols = symbols ∙ symbols_undamaged frame; within = within_undamaged frame octets some few; space = omega (arith, length_blocks n (randomized randomizer (filled frame))) } in
+      let well : WellSent settings showing randomizer then t = record { octets = octets; carrier = up; symbols = symbols ∙ symbols_undamaged randomizer frame; within = within_undamaged frame octets some few; space = omega (arith, length_blocks n (randomized randomizer (filled frame))) } in
       let all = what_is_sent_then_is_received settings showing randomizer hold earlier (t ∷ []) clear (refl, well, tt) in
       ap (new_candidates settings showing then) (sym (append-nil later)) ∙ all.2 matches

@@ -1,0 +1,2 @@
+-- What a session's memory holds. Assumes nothing.
+pub mod Written
