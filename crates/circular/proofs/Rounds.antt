@@ -1,7 +1,7 @@
 -- A list in its turn: from a later place on, one by one, and after a write. Assumes nothing.
-use Rattle.std.proofs.Common.{◌≡◌, ℕ, ◌+◌, ◌-◌, ◌<◌, ◌≤◌, List, ◌++◌, length, get_or, take, drop, set, sym, ap, subst, ◌∙◌, ap₂, inl, inr, add-zero, arith, take-add}
+use Rattle.std.proofs.Common.{◌≡◌, ℕ, ◌+◌, ◌-◌, ◌<◌, ◌≤◌, List, ◌++◌, length, take, drop, set, sym, ap, subst, ◌∙◌, ap₂, inl, inr, arith, take-add}
 use lib.Seq.{take-set-lt, take-append-add, drop-append-add}
-use Rattle.std.proofs.lemmas.List.{append_assoc, length-append, length-take, length-drop, take-append-drop, take-take, drop-drop, take-append-le, drop-append-le, get_or_append_left, get_or-drop, append-nil, take_all, drop_all, set_past, take-set-le, drop-set-lt, drop-set-add, set-append_left, set-append_right}
+use Rattle.std.proofs.lemmas.List.{append_assoc, length-append, length-take, length-drop, take-append-drop, take-take, drop-drop, take-append-le, drop-append-le, append-nil, take_all, drop_all, set_past, take-set-le, drop-set-lt, drop-set-add, set-append_left, set-append_right}
 use Rattle.circular.specs.Circle.{round_from, Turned}
 
 module _ {X : Type 0} (xs : List X) (first : ℕ) where
@@ -9,15 +9,6 @@ module _ {X : Type 0} (xs : List X) (first : ℕ) where
   length_round_from = omega (arith, length-append (drop first xs) (take first xs), length-drop first xs, length-take first xs)
 
   module _ (turn place : ℕ) where
-    -- fewer than a whole round on, the place is one of the list's
-    pub turned_below : turn < length xs → Turned (length xs) first turn place → place < length xs
-    turned_below h (inl e) = omega arith
-    turned_below h (inr e) = omega arith
-
-    pub turned_within : turn ≤ length xs → Turned (length xs) first turn place → place ≤ length xs
-    turned_within h (inl e) = omega arith
-    turned_within h (inr e) = omega arith
-
     -- a write at a place is a write in its turn
     pub round_from_set : (x : X) → turn < length xs → Turned (length xs) first turn place → round_from first (set xs place x) ≡ set (round_from first xs) turn x
     round_from_set x h (inl e) =
@@ -46,16 +37,6 @@ module _ {X : Type 0} (xs : List X) (first : ℕ) where
         ∙ append_assoc (drop place front) back (take place xs)
         ∙ ap (λ l. drop place front ++ (back ++ l)) (sym (take-take place first xs (omega arith)))
         ∙ sym (ap (λ i. drop i (back ++ front) ++ take i (back ++ front)) on ∙ ap₂ ◌++◌ (drop-append-add back front place) (take-append-add back front place))
-
-    -- the element at a place is the one in its turn
-    pub get_or_turned : (d : X) → turn < length xs → Turned (length xs) first turn place → get_or xs place d ≡ get_or (round_from first xs) turn d
-    get_or_turned d h turned =
-        let round = round_from first xs in
-        let below = turned_below h turned in
-        sym (get_or_append_left (drop place xs) (take place xs) d 0 (omega (arith, length-drop place xs)) ∙ get_or-drop place xs 0 d ∙ ap (λ i. get_or xs i d) (add-zero place))
-        ∙ ap (λ l. get_or l 0 d) (round_from_on (omega arith) turned)
-        ∙ get_or_append_left (drop turn round) (take turn round) d 0 (omega (arith, length-drop turn round, length_round_from))
-        ∙ get_or-drop turn round 0 d ∙ ap (λ i. get_or round i d) (add-zero turn)
 
 -- the same where as many places are given as the list has
 pub round_at : (places first turn place : ℕ) → Turned places first turn place → (xs : List ℕ) → length xs ≡ places → turn ≤ places → round_from place xs ≡ round_from turn (round_from first xs)

@@ -74,7 +74,7 @@ impl Decoding {
                 corrections: self.corrections,
             });
         }
-        let corrections = self.decode(hold, settings, word)?;
+        let corrections = decode(hold, settings, self.corrections, word)?;
         ControlFlow::Continue(Decoding {
             count: 0,
             word: 0,
@@ -89,7 +89,7 @@ impl Decoding {
     {
         let added = (*hold).open_codeblocks();
         let _ = hold.abandon();
-        self.report(Reason::Down, added)
+        report(Reason::Down, added, self.corrections)
     }
 
     // The symbols of the codeblock with one more.
@@ -98,70 +98,69 @@ impl Decoding {
     {
         (self.word << 1) | u64::from(bit)
     }
+}
 
-    fn report(self, reason: Reason, codeblocks: usize) -> Report
-        ensures { result ≡ report reason codeblocks self.corrections }
-    {
-        Report {
-            reason,
-            codeblocks,
-            corrections: self.corrections as usize,
-        }
+fn report(reason: Reason, codeblocks: usize, corrections: u16) -> Report
+    ensures { result ≡ report reason codeblocks corrections }
+{
+    Report {
+        reason,
+        codeblocks,
+        corrections: corrections as usize,
     }
+}
 
-    // Judges 64 symbols and adds them to the open candidate, of which so many codeblocks are corrected then, or
-    // ends it.
-    fn decode<H: Hold>(
-        self,
-        hold: &mut H,
-        settings: Settings,
-        word: u64,
-    ) -> ControlFlow<Report, u16>
-        ensures { decoded_as result (held_in H.Hold hold.new) ≡ told_decoded (decoded (rules_of settings) H.Hold.showing (held_in H.Hold hold.old) self.corrections word) }
-    {
-        match judge(settings.mode, word) {
-            None => ControlFlow::Break(self.close(hold)),
-            Some(accepted) => self.count_in(hold, settings, accepted),
-        }
+// Judges 64 symbols and adds them to the open candidate, of which so many codeblocks are corrected then, or
+// ends it.
+// Not inlined, since it is for one symbol in 64: the others then stay in registers.
+#[inline(never)]
+fn decode<H: Hold>(
+    hold: &mut H,
+    settings: Settings,
+    corrections: u16,
+    word: u64,
+) -> ControlFlow<Report, u16>
+    ensures { decoded_as result (held_in H.Hold hold.new) ≡ told_decoded (decoded (rules_of settings) H.Hold.showing (held_in H.Hold hold.old) corrections word) }
+{
+    match judge(settings.mode, word) {
+        None => ControlFlow::Break(close(hold, corrections)),
+        Some(accepted) => count_in(hold, settings, corrections, accepted),
     }
+}
 
-    // A rejected codeblock: the candidate is finished or, where nothing was added to it, abandoned. Neither
-    // is refused while a candidate is open, as it is from its start on.
-    fn close<H: Hold>(self, hold: &mut H) -> Report
-        ensures { ends (held_in H.Hold hold.new) result ≡ closing (held_in H.Hold hold.old) (added (held_in H.Hold hold.old)) self.corrections }
-    {
-        let codeblocks = (*hold).open_codeblocks();
-        if codeblocks == 0 {
-            let _ = hold.abandon();
-            self.report(Reason::Empty, codeblocks)
-        } else {
-            let _ = hold.finish();
-            self.report(Reason::Closed, codeblocks)
-        }
-    }
-
-    // An accepted codeblock: it is added, unless as many as the limit are or the hold is full.
-    fn count_in<H: Hold>(
-        self,
-        hold: &mut H,
-        settings: Settings,
-        accepted: Accepted,
-    ) -> ControlFlow<Report, u16>
-        ensures { decoded_as result (held_in H.Hold hold.new) ≡ told_decoded (counting_in (rules_of settings) H.Hold.showing (held_in H.Hold hold.old) self.corrections accepted.information accepted.corrected) }
-    {
-        let codeblocks = (*hold).open_codeblocks();
-        let reason = if codeblocks >= settings.limit.count() {
-            Reason::Long
-        } else if (*hold).free_space() == 0 {
-            Reason::Full
-        } else {
-            let _ = hold.add(accepted.information);
-            return ControlFlow::Continue(
-                self.corrections
-                    .saturating_add(u16::from(accepted.corrected)),
-            );
-        };
+// A rejected codeblock: the candidate is finished or, where nothing was added to it, abandoned. Neither
+// is refused while a candidate is open, as it is from its start on.
+fn close<H: Hold>(hold: &mut H, corrections: u16) -> Report
+    ensures { ends (held_in H.Hold hold.new) result ≡ closing (held_in H.Hold hold.old) (added (held_in H.Hold hold.old)) corrections }
+{
+    let codeblocks = (*hold).open_codeblocks();
+    if codeblocks == 0 {
         let _ = hold.abandon();
-        ControlFlow::Break(self.report(reason, codeblocks))
+        report(Reason::Empty, codeblocks, corrections)
+    } else {
+        let _ = hold.finish();
+        report(Reason::Closed, codeblocks, corrections)
     }
+}
+
+// An accepted codeblock: it is added, unless as many as the limit are or the hold is full.
+fn count_in<H: Hold>(
+    hold: &mut H,
+    settings: Settings,
+    corrections: u16,
+    accepted: Accepted,
+) -> ControlFlow<Report, u16>
+    ensures { decoded_as result (held_in H.Hold hold.new) ≡ told_decoded (counting_in (rules_of settings) H.Hold.showing (held_in H.Hold hold.old) corrections accepted.information accepted.corrected) }
+{
+    let codeblocks = (*hold).open_codeblocks();
+    let reason = if codeblocks >= settings.limit.count() {
+        Reason::Long
+    } else if (*hold).free_space() == 0 {
+        Reason::Full
+    } else {
+        let _ = hold.add(accepted.information);
+        return ControlFlow::Continue(corrections.saturating_add(u16::from(accepted.corrected)));
+    };
+    let _ = hold.abandon();
+    ControlFlow::Break(report(reason, codeblocks, corrections))
 }

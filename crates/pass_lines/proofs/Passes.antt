@@ -93,10 +93,8 @@ module _ {X : Type 0} (hold : Ghosts X) where
       let waits : option_to_list report ≡ outcome.reports =
       ap option_to_list ok ∙ sym (all_taken full mid.queue taken (one_waits call e before full one queued) took).0 ∙ waits_after call e before full one queued in
       record {
-        goes_on = record {
-          settings = told.settings ∙ called.settings;
-          come = told.come ∙ ap₂ with_reports (ap₂ progress there same) waits;
-        };
+        settings = told.settings ∙ called.settings;
+        come = told.come ∙ ap₂ with_reports (ap₂ progress there same) waits;
       }
 
   -- carrier up tells nothing
@@ -105,10 +103,8 @@ module _ {X : Type 0} (hold : Ghosts X) where
       let s = state_of hold before.receiver in
       let outcome = at_event (rules_of before.receiver.settings) hold.showing s carrier_up in
       record {
-        goes_on = record {
-          settings = called.settings;
-          come = ap₂ progress called.state same ∙ ap (with_reports (progress outcome.after before.log)) (sym (up_is_quiet s.phase s.held));
-        };
+        settings = called.settings;
+        come = ap₂ progress called.state same ∙ ap (with_reports (progress outcome.after before.log)) (sym (up_is_quiet s.phase s.held));
       }
 
 -- events, and then more
@@ -119,11 +115,9 @@ run_append settings showing (e ∷ es) fs p = run_append settings showing es fs 
 pub passed_then : {X : Type 0} (hold : Ghosts X) (es fs : List Event) (a b c : Receiving X hold) → Passed hold es a b → Passed hold fs b c → Passed hold (es ++ fs) a c
 passed_then hold es fs a b c first second =
     record {
-      goes_on = record {
-        settings = second.goes_on.settings ∙ first.goes_on.settings;
-        come = second.goes_on.come ∙ ap₂ (λ set p. run (rules_of set) hold.showing p fs) first.goes_on.settings first.goes_on.come
-            ∙ sym (run_append (rules_of a.receiver.settings) hold.showing es fs (progress_of hold a));
-      };
+      settings = second.settings ∙ first.settings;
+      come = second.come ∙ ap₂ (λ set p. run (rules_of set) hold.showing p fs) first.settings first.come
+          ∙ sym (run_append (rules_of a.receiver.settings) hold.showing es fs (progress_of hold a));
     }
 
 pub passed_as : {X : Type 0} {hold : Ghosts X} {es fs : List Event} {a b : Receiving X hold} → es ≡ fs → Passed hold es a b → Passed hold fs a b

@@ -66,5 +66,5 @@ module _ (settings : Settings) (showing : Showing) where
   run p (e ∷ es) = run (after_outcome p (at_event settings showing p.at e)) es
 
 -- a receiver and what is written after events, with nothing left to tell
-pub record Passed {X : Type 0} (hold : Ghosts X) (events : List Event) (before after : Receiving X hold) : Type 0 where
-  pub goes_on : GoesOn hold before after (run (rules_of before.receiver.settings) hold.showing (progress_of hold before) events)
+abbrev pub Passed : {X : Type 0} → (hold : Ghosts X) → List Event → (before after : Receiving X hold) → Type 0
+Passed hold events before after = GoesOn hold before after (run (rules_of before.receiver.settings) hold.showing (progress_of hold before) events)

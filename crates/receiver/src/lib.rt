@@ -39,19 +39,6 @@ pub enum ReceiverState {
     Decode,
 }
 
-// A symbol in SEARCH, with this window so far.
-fn search<H: Hold>(window: Window, hold: &mut H, settings: Settings, bit: bool) -> Phase
-    ensures outcome { quietly (phase_of result) (held_in H.Hold hold.new) ≡ at_symbol (rules_of settings) H.Hold.showing (SEARCH window.count window.bits) (held_in H.Hold hold.old) bit }
-    ensures few { few_corrections (phase_of result) (held_in H.Hold hold.new) ≡ true }
-{
-    let window = window.with(bit);
-    if window.is_start(settings.mode) {
-        Phase::Decode(Decoding::begin(hold))
-    } else {
-        Phase::Search(window)
-    }
-}
-
 // A symbol in DECODE, with so much of the candidate so far.
 fn decode<H: Hold>(
     decoding: Decoding,
@@ -187,6 +174,21 @@ impl<H: Hold> Receiver<H> {
         }
     }
 
+    // A symbol in SEARCH, with this window so far.
+    // The phase is written in each branch: chosen first and then moved, it goes through memory.
+    fn search(&mut self, window: Window, bit: bool)
+        ensures outcome { quietly (phase_of self.new.phase) (held_in H.Hold self.new.hold) ≡ at_symbol (rules_of self.old.settings) H.Hold.showing (SEARCH window.count window.bits) (held_in H.Hold self.old.hold) bit }
+        ensures settings { self.new.settings ≡ self.old.settings }
+        ensures lost { self.new.lost ≡ self.old.lost }
+    {
+        let window = window.with(bit);
+        if window.is_start(self.settings.mode) {
+            self.phase = Phase::Decode(Decoding::begin(&mut self.hold));
+        } else {
+            self.phase = Phase::Search(window);
+        }
+    }
+
     // What state and event together ask for. A refused event changes nothing.
     fn at_event(&mut self, event: Event) -> Result<Option<Report>, Refusal>
         ensures refused { refused_by result ≡ event_refusal (state_of H.Hold self.old) (event_of event) }
@@ -205,7 +207,7 @@ impl<H: Hold> Receiver<H> {
                 Ok(None)
             }
             (Phase::Search(window), Event::Symbol(bit)) => {
-                self.phase = search(window, &mut self.hold, self.settings, bit);
+                self.search(window, bit);
                 Ok(None)
             }
             (Phase::Decode(decoding), Event::CarrierDown) => {

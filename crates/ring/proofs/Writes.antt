@@ -31,17 +31,7 @@ same_octets zero x y cells e = refl
 same_octets (suc n) x y cells e = ap (λ l. l ++ octets_of (take n cells)) e
 
 module _ (ring : Ring) where
-  -- a write behind the finished candidates leaves them as they are
-  finished_stay : (turn : ℕ) (cell : Cell) → ring.used ≤ turn → take ring.used (set (in_turn ring) turn cell) ≡ take ring.used (in_turn ring)
-  finished_stay turn cell past = take-set-le ring.used (in_turn ring) turn cell past
-
-  pub finished_stays : (turn : ℕ) (cell : Cell) → ring.used ≤ turn → grouped ring.waiting (take ring.used (set (in_turn ring) turn cell)) ≡ finished_in ring
-  finished_stays turn cell past = ap (grouped ring.waiting) (finished_stay turn cell past)
-
-  pub whole_stays : (turn : ℕ) (cell : Cell) → ring.used ≤ turn → parted ring.waiting (take ring.used (set (in_turn ring) turn cell)) ≡ true
-  whole_stays turn cell past = ap (parted ring.waiting) (finished_stay turn cell past) ∙ ring.whole
-
-  -- and no fewer cells
+  -- a write leaves as many cells
   pub same_length : (turn : ℕ) (cell : Cell) → length (set (in_turn ring) turn cell) ≡ capacity_of ring
   same_length turn cell = length-set (in_turn ring) turn cell
 
