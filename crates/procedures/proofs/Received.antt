@@ -14,11 +14,12 @@ use Rattle.reception.specs.Allowance.{ReceivedCltu, symbols_of, WithinAllowance,
 use Rattle.reception.specs.Promise.{IdleOrNothing, CarrierStaysDown, Transmission, events_of, WellSent, announced, new_candidates}
 use Rattle.reception.proofs.Brings.{after_append, new_append}
 use Rattle.reception.proofs.Decoding.{length_shown_from}
+use Rattle.reception.proofs.Finished.{run_keeps}
 use Rattle.reception.proofs.Kept.{none_open_in_inactive}
 use Rattle.reception.proofs.Sent.{idle_gap, away_comes, one_well_sent, under_filled, shown_back}
 use Rattle.reception.proofs.Undamaged.{length_blocks, within_undamaged}
-use Rattle.procedures.specs.Stretch.{Terms, frames_in}
-use Rattle.procedures.specs.Reception.{SentUndamaged, FramesWithin, codeblocks_of, ReceivedStretch, events_of_stretch, BroughtWhole, frames_of, AStretchIsReceived, ASessionIsReceived, SessionPromise}
+use Rattle.procedures.specs.Stretch.{Parameters, frames_in}
+use Rattle.procedures.specs.Reception.{SentUndamaged, FramesWithin, codeblocks_of, ReceivedStretch, events_of_stretch, BroughtUndamaged, frames_of, AStretchIsReceived, ASessionIsReceived, SessionPromise}
 use Rattle.procedures.proofs.Stretches.{a_stretch_is_cltus_with_idle_between}
 use Rattle.procedures.proofs.Rooms.{room_left}
 
@@ -92,16 +93,16 @@ module _ (settings : Settings) (showing : Showing) (randomizer : Randomizer) whe
 
 module _ (settings : Settings) (showing : Showing) where
   pub a_stretch_is_received : AStretchIsReceived settings showing
-  a_stretch_is_received terms acquisition writings hold earlier later inactive up symbols within space =
-      let r = terms.randomizer in
+  a_stretch_is_received parameters acquisition writings hold earlier later inactive up symbols within space =
+      let r = parameters.randomizer in
       let then = after_events settings showing (made hold) earlier in
-      let parts = a_stretch_is_cltus_with_idle_between terms acquisition writings later up symbols in
+      let parts = a_stretch_is_cltus_with_idle_between parameters acquisition writings later up symbols in
       let none = none_open_in_inactive settings showing hold earlier inactive in
       let inside = all_in settings showing r (frames_in writings) parts.sent parts.behind then.held none parts.undamaged parts.idle within space in
       let at = ap (λ p. (at_up p then.held).after) inactive in
       let whole = subst (λ es. StretchIn settings showing r (frames_in writings) (state (SEARCH 0 0) then.held) es) (sym parts.whole) inside in
       let new = ap (λ p. announced then.held.opened (at_up p then.held).reports ++ new_candidates settings showing (at_up p then.held).after later) inactive ∙ whole.new in
-      (subst (λ u. Clear (after_events settings showing u later).phase (after_events settings showing u later).held) (sym at) whole.clear, record { shown = new; filled_frames = λ matches. new ∙ as_filled settings showing r (frames_in writings) within matches })
+      (subst (λ u. Clear (after_events settings showing u later).phase (after_events settings showing u later).held) (sym at) whole.clear, record { shown = new; filled_frames = λ matches. new ∙ as_filled settings showing r (frames_in writings) within matches; added = run_keeps settings showing then (carrier_up ∷ later) })
 
 -- ---- stretch after stretch
 
@@ -128,21 +129,21 @@ module _ (settings : Settings) (showing : Showing) where
   comes_down (SEARCH count window) h away clear down = let w = away_comes settings showing away h down in (ap (λ u. u.phase) w.after, w.new)
   comes_down (DECODE count word k) h away clear down = absurd clear
 
-  all_received : (terms : Terms) (stretches : List ReceivedStretch) (hold : Held) (earlier : List Event) →
+  all_received : (parameters : Parameters) (stretches : List ReceivedStretch) (hold : Held) (earlier : List Event) →
       let then = after_events settings showing (made hold) earlier in
       let events = flat_map events_of_stretch stretches in
-      then.phase ≡ INACTIVE → BroughtWhole terms stretches → FramesWithin settings.limit (frames_of stretches) → codeblocks_of (frames_of stretches) ≤ room then.held →
-      ((after_events settings showing then events).phase ≡ INACTIVE) × (new_candidates settings showing then events ≡ map (shown settings showing terms.randomizer) (frames_of stretches))
-  all_received terms [] hold earlier inactive brought within space = (inactive, refl)
-  all_received terms (one ∷ more) hold earlier inactive brought within space =
-      let r = terms.randomizer in
+      then.phase ≡ INACTIVE → BroughtUndamaged parameters stretches → FramesWithin settings.limit (frames_of stretches) → codeblocks_of (frames_of stretches) ≤ room then.held →
+      ((after_events settings showing then events).phase ≡ INACTIVE) × (new_candidates settings showing then events ≡ map (shown settings showing parameters.randomizer) (frames_of stretches))
+  all_received parameters [] hold earlier inactive brought within space = (inactive, refl)
+  all_received parameters (one ∷ more) hold earlier inactive brought within space =
+      let r = parameters.randomizer in
       let then = after_events settings showing (made hold) earlier in
       let frames = frames_in one.writings in
       let others = frames_of more in
       let up = carrier_up ∷ one.during in
       let down = carrier_down ∷ one.away in
       let there = after_events settings showing then up in
-      let own = a_stretch_is_received settings showing terms one.acquisition one.writings hold earlier one.during inactive brought.0 brought.1 (within_front settings.limit frames others within) (omega (arith, codeblocks_of_both frames others)) in
+      let own = a_stretch_is_received settings showing parameters one.acquisition one.writings hold earlier one.during inactive brought.0 brought.1 (within_front settings.limit frames others within) (omega (arith, codeblocks_of_both frames others)) in
       let gone = comes_down there.phase there.held one.away own.0 brought.2 in
       let all = events_of_stretch one in
       let last = after_append settings showing up down then in
@@ -152,7 +153,7 @@ module _ (settings : Settings) (showing : Showing) where
       let none = none_open_in_inactive settings showing hold earlier inactive in
       let none-next = none_open_in_inactive settings showing hold (earlier ++ all) there-too in
       let left = room_left settings showing then all none (ap (λ u. u.held.opened) (sym next) ∙ none-next) in
-      let rest = all_received terms more hold (earlier ++ all) there-too brought.3 (within_back settings.limit frames others within)
+      let rest = all_received parameters more hold (earlier ++ all) there-too brought.3 (within_back settings.limit frames others within)
       (omega (arith, left, ap finished_codeblocks new, codeblocks_of_shown r frames, codeblocks_of_both frames others, ap (λ u. room u.held) next)) in
       let behind = flat_map events_of_stretch more in (
         ap (λ u. u.phase) (after_append settings showing all behind then) ∙ ap (λ u. (after_events settings showing u behind).phase) (sym next) ∙ rest.0,
@@ -160,9 +161,9 @@ module _ (settings : Settings) (showing : Showing) where
       )
 
   pub a_session_is_received : ASessionIsReceived settings showing
-  a_session_is_received terms stretches hold earlier inactive brought within space =
-      let all = all_received terms stretches hold earlier inactive brought within space in
-      (all.0, record { shown = all.1; filled_frames = λ matches. all.1 ∙ as_filled settings showing terms.randomizer (frames_of stretches) within matches })
+  a_session_is_received parameters stretches hold earlier inactive brought within space =
+      let all = all_received parameters stretches hold earlier inactive brought within space in
+      (all.0, record { shown = all.1; filled_frames = λ matches. all.1 ∙ as_filled settings showing parameters.randomizer (frames_of stretches) within matches; added = run_keeps settings showing (after_events settings showing (made hold) earlier) (flat_map events_of_stretch stretches) })
 
 pub session_promise : SessionPromise
 session_promise = record { cltus = a_stretch_is_cltus_with_idle_between; stretch = a_stretch_is_received; session = a_session_is_received }

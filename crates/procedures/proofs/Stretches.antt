@@ -11,7 +11,7 @@ use Rattle.reception.proofs.Brings.{Brings, split}
 use Rattle.reception.proofs.Undamaged.{bits_append, symbols_undamaged}
 use Rattle.procedures.specs.declared.IdleOctet.{IdleOctet}
 use Rattle.procedures.specs.declared.IdleOctet.TheVariants.{ZeroFirst, OneFirst}
-use Rattle.procedures.specs.Stretch.{idle_octet, repeated, idle_behind, Terms, Writing, idles, sends, octets_in, frames_in}
+use Rattle.procedures.specs.Stretch.{idle_octet, repeated, idle_behind, Parameters, Writing, idles, sends, octets_in, frames_in}
 use Rattle.procedures.specs.Reception.{CltusWithIdleBetween, AStretchIsCltusWithIdleBetween}
 
 abbrev first_bit : IdleOctet → Bool
@@ -54,31 +54,31 @@ laid_out : {whole behind-first behind-second : List Event} (first second third l
 laid_out first second third last e f g =
     e ∙ ap (λ l. first ++ l) (f ∙ ap (λ l. second ++ l) g ∙ sym (append_assoc second third last)) ∙ sym (append_assoc first (second ++ third) last)
 
-module _ (terms : Terms) where
+module _ (parameters : Parameters) where
   -- behind so many idle octets
-  cltus_behind : (writings : List Writing) (before : ℕ) (events : List Event) → CarrierStaysUp events → symbols_in events ≡ bits_of (repeated terms.idle before ++ flat_map (octets_in terms) writings) →
-      CltusWithIdleBetween terms.randomizer (frames_in writings) events
+  cltus_behind : (writings : List Writing) (before : ℕ) (events : List Event) → CarrierStaysUp events → symbols_in events ≡ bits_of (repeated parameters.idle before ++ flat_map (octets_in parameters) writings) →
+      CltusWithIdleBetween parameters.randomizer (frames_in writings) events
   cltus_behind [] before events up e =
-      record { sent = []; behind = events; whole = refl; undamaged = tt; idle = idle_events terms.idle before events up (e ∙ ap bits_of (append-nil (repeated terms.idle before))) }
+      record { sent = []; behind = events; whole = refl; undamaged = tt; idle = idle_events parameters.idle before events up (e ∙ ap bits_of (append-nil (repeated parameters.idle before))) }
   cltus_behind (idles octets ∷ writings) before events up e =
-      cltus_behind writings (before + octets) events up (e ∙ ap bits_of (repeated_on terms.idle before octets (flat_map (octets_in terms) writings)))
+      cltus_behind writings (before + octets) events up (e ∙ ap bits_of (repeated_on parameters.idle before octets (flat_map (octets_in parameters) writings)))
   cltus_behind (sends frame ∷ writings) before events up e =
-      let own = cltu terms.randomizer frame in
-      let tail = repeated terms.idle (idle_behind terms.plop) in
-      let rest = flat_map (octets_in terms) writings in
-      let gap = split events (bits_of (repeated terms.idle before)) (bits_of ((own ++ tail) ++ rest)) (e ∙ bits_append (repeated terms.idle before) ((own ++ tail) ++ rest)) up in
+      let own = cltu parameters.randomizer frame in
+      let tail = repeated parameters.idle (idle_behind parameters.plop) in
+      let rest = flat_map (octets_in parameters) writings in
+      let gap = split events (bits_of (repeated parameters.idle before)) (bits_of ((own ++ tail) ++ rest)) (e ∙ bits_append (repeated parameters.idle before) ((own ++ tail) ++ rest)) up in
       let here = split gap.back (bits_of own) (bits_of (tail ++ rest)) (gap.rest ∙ ap bits_of (append_assoc own tail rest) ∙ bits_append own (tail ++ rest)) gap.stays in
-      let more = cltus_behind writings (idle_behind terms.plop) here.back here.stays here.rest in
-      let idle_only = brought (bits_of (repeated terms.idle before)) gap.front gap.brings in
+      let more = cltus_behind writings (idle_behind parameters.plop) here.back here.stays here.rest in
+      let idle_only = brought (bits_of (repeated parameters.idle before)) gap.front gap.brings in
       let cltu_only = brought (bits_of own) here.front here.brings in
-      let t : Transmission = record { gap = gap.front; frame = frame; received = undamaged terms.randomizer frame; events = here.front } in
+      let t : Transmission = record { gap = gap.front; frame = frame; received = undamaged parameters.randomizer frame; events = here.front } in
       record {
         sent = t ∷ more.sent;
         behind = more.behind;
         whole = laid_out gap.front here.front (events_of more.sent) more.behind gap.whole here.whole more.whole;
-        undamaged = (idle_events terms.idle before gap.front idle_only.0 idle_only.1, refl, refl, cltu_only.0, cltu_only.1 ∙ symbols_undamaged terms.randomizer frame, more.undamaged);
+        undamaged = (idle_events parameters.idle before gap.front idle_only.0 idle_only.1, refl, refl, cltu_only.0, cltu_only.1 ∙ symbols_undamaged parameters.randomizer frame, more.undamaged);
         idle = more.idle;
       }
 
 pub a_stretch_is_cltus_with_idle_between : AStretchIsCltusWithIdleBetween
-a_stretch_is_cltus_with_idle_between terms acquisition writings events up e = cltus_behind terms writings acquisition events up e
+a_stretch_is_cltus_with_idle_between parameters acquisition writings events up e = cltus_behind parameters writings acquisition events up e

@@ -1,5 +1,5 @@
 -- A stretch as a receiver takes it whose carrier is up for it. Assumes nothing.
-use Rattle.std.specs.Prelude.{◌≡◌, ℕ, ◌+◌, ◌≤◌, List, [], ◌∷◌, ◌++◌, map, length}
+use Rattle.std.specs.Prelude.{◌≡◌, ℕ, ◌+◌, ◌≤◌, List, [], ◌∷◌, ◌++◌, map, length, drop}
 use Rattle.std.specs.Int.Digits.{AllBelowBase}
 use Rattle.std.specs.List.{flat_map}
 use Rattle.bch.specs.Bits.{bits_of}
@@ -10,8 +10,8 @@ use Rattle.hold.specs.Candidates.{Showing, shown_from, Matches}
 use Rattle.reception.specs.Rules.{Settings, Held, room, INACTIVE, State, Event, carrier_up, carrier_down, made}
 use Rattle.reception.specs.Runs.{after_events, symbols_in, CarrierStaysUp, Clear}
 use Rattle.reception.specs.Allowance.{undamaged, symbols_of}
-use Rattle.reception.specs.Promise.{IdleOrNothing, CarrierStaysDown, Transmission, events_of, new_candidates}
-use Rattle.procedures.specs.Stretch.{Terms, Writing, stretch_octets, frames_in}
+use Rattle.reception.specs.Promise.{IdleOrNothing, CarrierStaysDown, Transmission, events_of, new_candidates, releases_accepted}
+use Rattle.procedures.specs.Stretch.{Parameters, Writing, stretch_octets, frames_in}
 
 -- the CLTUs of these frames as they were sent, with idle or nothing before each
 abbrev pub SentUndamaged : Randomizer → List (List ℕ) → List Transmission → Type 0
@@ -33,9 +33,9 @@ pub record CltusWithIdleBetween (randomizer : Randomizer) (frames : List (List �
 -- however the symbols are spread over calls, and whatever is released between them
 abbrev pub AStretchIsCltusWithIdleBetween : Type 0
 AStretchIsCltusWithIdleBetween =
-    (terms : Terms) (acquisition : ℕ) (writings : List Writing) (events : List Event) →
-    CarrierStaysUp events → symbols_in events ≡ bits_of (stretch_octets terms acquisition writings) →
-    CltusWithIdleBetween terms.randomizer (frames_in writings) events
+    (parameters : Parameters) (acquisition : ℕ) (writings : List Writing) (events : List Event) →
+    CarrierStaysUp events → symbols_in events ≡ bits_of (stretch_octets parameters acquisition writings) →
+    CltusWithIdleBetween parameters.randomizer (frames_in writings) events
 
 -- every frame has octets, and no more codeblocks than the limit
 abbrev pub FramesWithin : (limit : ℕ) → List (List ℕ) → Type 0
@@ -57,10 +57,10 @@ abbrev pub events_of_stretch : ReceivedStretch → List Event
 events_of_stretch one = carrier_up ∷ (one.during ++ (carrier_down ∷ one.away))
 
 -- undamaged, with the carrier up for each and down between them
-abbrev pub BroughtWhole : Terms → List ReceivedStretch → Type 0
-BroughtWhole terms [] = Unit {0}
-BroughtWhole terms (one ∷ more) =
-    CarrierStaysUp one.during × (symbols_in one.during ≡ bits_of (stretch_octets terms one.acquisition one.writings)) × CarrierStaysDown one.away × BroughtWhole terms more
+abbrev pub BroughtUndamaged : Parameters → List ReceivedStretch → Type 0
+BroughtUndamaged parameters [] = Unit {0}
+BroughtUndamaged parameters (one ∷ more) =
+    CarrierStaysUp one.during × (symbols_in one.during ≡ bits_of (stretch_octets parameters one.acquisition one.writings)) × CarrierStaysDown one.away × BroughtUndamaged parameters more
 
 abbrev pub frames_of : List ReceivedStretch → List (List ℕ)
 frames_of stretches = flat_map (λ one. frames_in one.writings) stretches
@@ -71,27 +71,29 @@ module _ (settings : Settings) (showing : Showing) where
   pub record Adds (randomizer : Randomizer) (frames : List (List ℕ)) (s : State) (events : List Event) : Type 0 where
     pub shown : new_candidates settings showing s events ≡ map (λ frame. shown_from showing 0 (randomized randomizer (filled frame))) frames
     pub filled_frames : Matches showing randomizer → new_candidates settings showing s events ≡ map filled frames
+    -- they are added behind what was finished, less one from the front for each accepted release
+    pub added : (after_events settings showing s events).held.finished ≡ drop (releases_accepted settings showing s events) (s.held.finished ++ new_candidates settings showing s events)
 
   -- a receiver that is INACTIVE when the carrier goes up, and whose hold has space for every frame then, adds exactly the frames of the stretch, and is
   -- in SEARCH with no candidate open at its end
   abbrev pub AStretchIsReceived : Type 0
   AStretchIsReceived =
-      (terms : Terms) (acquisition : ℕ) (writings : List Writing) (hold : Held) (earlier later : List Event) →
+      (parameters : Parameters) (acquisition : ℕ) (writings : List Writing) (hold : Held) (earlier later : List Event) →
       let then = after_events settings showing (made hold) earlier in
       let last = after_events settings showing then (carrier_up ∷ later) in
-      then.phase ≡ INACTIVE → CarrierStaysUp later → symbols_in later ≡ bits_of (stretch_octets terms acquisition writings) →
+      then.phase ≡ INACTIVE → CarrierStaysUp later → symbols_in later ≡ bits_of (stretch_octets parameters acquisition writings) →
       FramesWithin settings.limit (frames_in writings) → codeblocks_of (frames_in writings) ≤ room then.held →
-      Clear last.phase last.held × Adds terms.randomizer (frames_in writings) then (carrier_up ∷ later)
+      Clear last.phase last.held × Adds parameters.randomizer (frames_in writings) then (carrier_up ∷ later)
 
   -- so does one that is INACTIVE before a whole session, and it is INACTIVE again behind it
   abbrev pub ASessionIsReceived : Type 0
   ASessionIsReceived =
-      (terms : Terms) (stretches : List ReceivedStretch) (hold : Held) (earlier : List Event) →
+      (parameters : Parameters) (stretches : List ReceivedStretch) (hold : Held) (earlier : List Event) →
       let then = after_events settings showing (made hold) earlier in
       let events = flat_map events_of_stretch stretches in
-      then.phase ≡ INACTIVE → BroughtWhole terms stretches →
+      then.phase ≡ INACTIVE → BroughtUndamaged parameters stretches →
       FramesWithin settings.limit (frames_of stretches) → codeblocks_of (frames_of stretches) ≤ room then.held →
-      ((after_events settings showing then events).phase ≡ INACTIVE) × Adds terms.randomizer (frames_of stretches) then events
+      ((after_events settings showing then events).phase ≡ INACTIVE) × Adds parameters.randomizer (frames_of stretches) then events
 
 -- what is promised of every receiver, hold and kind of showing
 pub record SessionPromise : Type 0 where

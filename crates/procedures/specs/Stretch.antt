@@ -22,26 +22,26 @@ idle_behind One = 0
 idle_behind Two = 1
 
 -- what the octets of a session depend on
-pub record Terms : Type 0 where
+pub record Parameters : Type 0 where
   pub plop : Plop
   pub randomizer : Randomizer
   pub idle : IdleOctet
 
 -- a frame's CLTU with the idle octets of the procedure
-abbrev pub sent_octets : Terms → List ℕ → List ℕ
-sent_octets terms frame = cltu terms.randomizer frame ++ repeated terms.idle (idle_behind terms.plop)
+abbrev pub sent_octets : Parameters → List ℕ → List ℕ
+sent_octets parameters frame = cltu parameters.randomizer frame ++ repeated parameters.idle (idle_behind parameters.plop)
 
 -- what may be written behind an acquisition: so many idle octets, or a frame
 pub data Writing : Type 0 where
   idles : (octets : ℕ) → Writing
   sends : (frame : List ℕ) → Writing
 
-abbrev pub octets_in : Terms → Writing → List ℕ
-octets_in terms (idles octets) = repeated terms.idle octets
-octets_in terms (sends frame) = sent_octets terms frame
+abbrev pub octets_in : Parameters → Writing → List ℕ
+octets_in parameters (idles octets) = repeated parameters.idle octets
+octets_in parameters (sends frame) = sent_octets parameters frame
 
-abbrev pub stretch_octets : Terms → (acquisition : ℕ) → List Writing → List ℕ
-stretch_octets terms acquisition writings = repeated terms.idle acquisition ++ flat_map (octets_in terms) writings
+abbrev pub stretch_octets : Parameters → (acquisition : ℕ) → List Writing → List ℕ
+stretch_octets parameters acquisition writings = repeated parameters.idle acquisition ++ flat_map (octets_in parameters) writings
 
 -- the frames among them, in order
 abbrev pub frames_in : List Writing → List (List ℕ)

@@ -1,4 +1,4 @@
--- A CLTU in front of memory, and idle octets right behind it. Assumes nothing.
+-- A CLTU in front of memory and idle octets right behind it, and how a stretch goes on. Assumes nothing.
 use Rattle.std.proofs.Common.{◌≡◌, ℕ, ◌+◌, ◌-◌, List, [], ◌∷◌, ◌++◌, length, take, drop, sym, ap, ◌∙◌, append_assoc, append-nil, arith}
 use Rattle.std.proofs.lemmas.List.{length-append, length-replicate, take_at, drop_at, drop-drop, replicate-append-replicate}
 use Rattle.std.specs.List.{flat_map}
@@ -7,8 +7,7 @@ use Rattle.procedures.specs.declared.IdleOctet.{IdleOctet}
 use Rattle.procedures.specs.Stretch.{idle_octet, repeated, sent_octets, Writing, idles, octets_in, stretch_octets}
 use Rattle.session.specs.declared.Job.{Job}
 use Rattle.session.specs.declared.Settings.{Settings}
-use Rattle.session.specs.Writing.{terms_of, frame_at, job_octets, GoesOn, writings_of}
-use Rattle.session.specs.Calls.{next_writings, next_octets}
+use Rattle.session.specs.Writing.{parameters_of, frame_at, job_octets, GoesOn, writings_of}
 
 module _ (octet : IdleOctet) where
   both_idle : (own : List ℕ) (a b : ℕ) → (own ++ repeated octet a) ++ repeated octet b ≡ own ++ repeated octet (a + b)
@@ -28,30 +27,23 @@ module _ (octet : IdleOctet) where
 module _ (settings : Settings) where
   -- what is written at the end of a stretch is its last part
   goes_on : (acquisition : ℕ) (before writings : List Writing) →
-      let terms = terms_of settings in
-      stretch_octets terms acquisition before ++ flat_map (octets_in terms) writings ≡ stretch_octets terms acquisition (before ++ writings)
+      let parameters = parameters_of settings in
+      stretch_octets parameters acquisition before ++ flat_map (octets_in parameters) writings ≡ stretch_octets parameters acquisition (before ++ writings)
   goes_on acquisition before writings =
-      let terms = terms_of settings in
-      append_assoc (repeated terms.idle acquisition) (flat_map (octets_in terms) before) (flat_map (octets_in terms) writings)
-      ∙ ap (λ l. repeated terms.idle acquisition ++ l) (sym (flat_map-append (octets_in terms) before writings))
-
-  pub nothing_goes_on : GoesOn settings [] []
-  nothing_goes_on acquisition before = goes_on acquisition before []
+      let parameters = parameters_of settings in
+      append_assoc (repeated parameters.idle acquisition) (flat_map (octets_in parameters) before) (flat_map (octets_in parameters) writings)
+      ∙ ap (λ l. repeated parameters.idle acquisition ++ l) (sym (flat_map-append (octets_in parameters) before writings))
 
   pub idle_goes_on : (octets : ℕ) → GoesOn settings (idles octets ∷ []) (repeated settings.idle octets)
   idle_goes_on octets acquisition before =
-      ap (λ l. stretch_octets (terms_of settings) acquisition before ++ l) (sym (append-nil (repeated settings.idle octets)))
+      ap (λ l. stretch_octets (parameters_of settings) acquisition before ++ l) (sym (append-nil (repeated settings.idle octets)))
       ∙ goes_on acquisition before (idles octets ∷ [])
 
   pub job_goes_on : (frames : List ℕ) (job : Job) → GoesOn settings (writings_of frames job) (job_octets settings frames job)
   job_goes_on frames job acquisition before =
-      let own = sent_octets (terms_of settings) (frame_at frames job.frame) in
-      ap (λ l. stretch_octets (terms_of settings) acquisition before ++ (own ++ l)) (sym (append-nil (repeated settings.idle job.idle)))
+      let own = sent_octets (parameters_of settings) (frame_at frames job.frame) in
+      ap (λ l. stretch_octets (parameters_of settings) acquisition before ++ (own ++ l)) (sym (append-nil (repeated settings.idle job.idle)))
       ∙ goes_on acquisition before (writings_of frames job)
 
-  pub next_goes_on : (frames : List ℕ) (jobs : List Job) → GoesOn settings (next_writings settings frames jobs) (next_octets settings frames jobs)
-  next_goes_on frames [] = nothing_goes_on
-  next_goes_on frames (job ∷ rest) = job_goes_on frames job
-
-  pub only_acquired : (octets : ℕ) → stretch_octets (terms_of settings) octets [] ≡ repeated settings.idle octets
+  pub only_acquired : (octets : ℕ) → stretch_octets (parameters_of settings) octets [] ≡ repeated settings.idle octets
   only_acquired octets = append-nil (repeated settings.idle octets)

@@ -4,13 +4,13 @@ use Rattle.std.specs.Int.{is_in_range}
 use Rattle.refusals.specs.declared.Refusal.{Refusal}
 use Rattle.refusals.specs.declared.Refusal.TheVariants.{FrameLength, MemoryTooShort, IdleLength}
 use Rattle.cltu.specs.Writing.{frame_refused}
-use Rattle.procedures.specs.Stretch.{repeated, Terms, sent_octets, Writing, sends, idles, stretch_octets}
+use Rattle.procedures.specs.Stretch.{repeated, Parameters, sent_octets, Writing, sends, idles, stretch_octets}
 use Rattle.session.specs.declared.FrameSpan.{FrameSpan}
 use Rattle.session.specs.declared.Job.{Job}
 use Rattle.session.specs.declared.Settings.{Settings}
 
-abbrev pub terms_of : Settings → Terms
-terms_of settings = record { plop = settings.plop; randomizer = settings.sender.randomizer; idle = settings.idle }
+abbrev pub parameters_of : Settings → Parameters
+parameters_of settings = record { plop = settings.plop; randomizer = settings.sender.randomizer; idle = settings.idle }
 
 -- what the memory holds after a call that writes: the octets in front and the rest as it was, or all of it as it was
 abbrev pub memory_after : List ℕ → List ℕ → Result ℕ Refusal → List ℕ
@@ -22,7 +22,7 @@ abbrev pub idle_answer : (least most octets : ℕ) → List ℕ → Result ℕ R
 idle_answer least most octets memory =
     cond (nat_lt (length memory) octets) (Err MemoryTooShort) (cond (is_in_range least most octets) (Ok octets) (Err IdleLength))
 
--- a frame by its place in the caller's frame memory, and whether it is refused
+-- a frame by its place in the caller's frame memory
 abbrev pub frame_at : List ℕ → FrameSpan → List ℕ
 frame_at frames span = take span.length (drop span.place frames)
 
@@ -39,7 +39,7 @@ pub record NotWhole (frames : List ℕ) (span : FrameSpan) (why : Refusal) : Typ
 module _ (settings : Settings) (frames : List ℕ) (job : Job) where
   -- its CLTU, the idle octets of the procedure, and its own
   abbrev pub job_octets : List ℕ
-  job_octets = sent_octets (terms_of settings) (frame_at frames job.frame) ++ repeated settings.idle job.idle
+  job_octets = sent_octets (parameters_of settings) (frame_at frames job.frame) ++ repeated settings.idle job.idle
 
   -- the lowest refusal that applies
   abbrev pub job_answer : List ℕ → Result ℕ Refusal
@@ -52,7 +52,7 @@ module _ (settings : Settings) (frames : List ℕ) (job : Job) where
 -- octets with which a stretch goes on, whatever was written in it before
 abbrev pub GoesOn : Settings → List Writing → List ℕ → Type 0
 GoesOn settings writings octets =
-    (acquisition : ℕ) (before : List Writing) → stretch_octets (terms_of settings) acquisition before ++ octets ≡ stretch_octets (terms_of settings) acquisition (before ++ writings)
+    (acquisition : ℕ) (before : List Writing) → stretch_octets (parameters_of settings) acquisition before ++ octets ≡ stretch_octets (parameters_of settings) acquisition (before ++ writings)
 
 -- what a job writes, as a part of a stretch
 abbrev pub writings_of : List ℕ → Job → List Writing

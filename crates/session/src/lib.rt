@@ -2,13 +2,13 @@
 //! layer operations procedures allow. Each state is a type of its own, so that a wrong order does not compile.
 #![tactic(auto)]
 
-ghost use Rattle.std.specs.Prelude.{◌≡◌, [], ◌∷◌, length, MatchResult};
+ghost use Rattle.std.specs.Prelude.{◌≡◌, [], ◌∷◌, length, take, MatchResult, IfOk};
 ghost use Rattle.queue.specs.Waiting.{waiting, capacity};
-ghost use Rattle.procedures.specs.Stretch.{repeated, idles, stretch_octets};
-ghost use Rattle.procedures.specs.Reception.{SessionPromise};
+ghost use Rattle.procedures.specs.Stretch.{repeated, idles, stretch_octets, frames_in};
+ghost use Rattle.procedures.specs.Reception.{SessionPromise, FramesWithin};
 ghost use Rattle.cltu.specs.Limit.{limit_answer};
 ghost use Rattle.session.specs.Calls.{MadeWith, silent_with, carrier_with, acquired, state_after, sending, only_frame, next_octets, next_answer, next_writings, left_waiting};
-ghost use Rattle.session.specs.Writing.{terms_of, Found, NotWhole, idle_answer, job_octets, job_answer, memory_after, GoesOn, writings_of};
+ghost use Rattle.session.specs.Writing.{parameters_of, Found, NotWhole, idle_answer, job_octets, job_answer, memory_after, GoesOn, writings_of};
 
 use cltu::{CodeblockLimit, Sender};
 use procedures::{IdleOctet, Plop};
@@ -69,7 +69,7 @@ pub struct Carrier {
     settings: Settings,
 }
 
-/// A session whose receivers follow its symbols.
+/// A session that has written its acquisition and may send.
 #[derive(Drop)]
 #[must_use]
 pub struct Locked {
@@ -137,6 +137,7 @@ impl Settings {
     {
         let frame = job.frame.within(frames)?;
         let cltu = self.sender.cltu_length(frame.len())?;
+        // A sum that is out of range is longer than any memory.
         let behind = job.idle.saturating_add(self.plop.idle_behind());
         if memory.len() < cltu || memory.len() - cltu < behind {
             return Err(Refusal::MemoryTooShort);
@@ -161,8 +162,8 @@ impl Settings {
 }
 
 impl Silent {
-    /// A session whose carrier is down, for good in this procedure, with this randomizer and idle octet, for
-    /// receivers that take CLTUs of so many codeblocks. Refused with 4 where that is outside 1 to 147.
+    /// A session whose carrier is down. Its procedure, its randomizer, its idle octet and the greatest count of
+    /// codeblocks in its CLTUs stay as they are made. Refused with 4 where that count is outside 1 to 147.
     pub fn new(
         plop: Plop,
         limit: usize,
@@ -185,9 +186,8 @@ impl Silent {
     pub fn raise(self) -> Carrier
         ensures { result ≡ carrier_with self.settings }
     {
-        Carrier {
-            settings: self.settings,
-        }
+        let Silent { settings } = self;
+        Carrier { settings }
     }
 }
 
@@ -195,7 +195,7 @@ impl Carrier {
     /// Writes an acquisition sequence of 16 to 255 octets at the front of the memory, and answers how many octets
     /// it has. A receiver's carrier is up from here to the break. Refused with 2 where the memory is shorter than
     /// that, and with 3 outside that range; then the memory is as it was.
-    #[tactic(auto, using(crate::proofs::Written::only_acquired))]
+    #[tactic(auto, using(crate::proofs::Fronts::acquired_in_front))]
     pub fn acquire(
         self,
         octets: usize,
@@ -203,7 +203,7 @@ impl Carrier {
     ) -> Result<(Locked, usize), (Carrier, Refusal)>
         ensures answer { result ≡ acquired self (idle_answer 16 255 octets memory.old) }
         ensures memory { memory.new ≡ memory_after (repeated self.settings.idle octets) memory.old (idle_answer 16 255 octets memory.old) }
-        ensures stretch { stretch_octets (terms_of self.settings) octets [] ≡ repeated self.settings.idle octets }
+        ensures stretch { IfOk result (λ done. take done.1 memory.new ≡ stretch_octets (parameters_of self.settings) octets []) }
         ensures promise { SessionPromise }
     {
         let settings = self.settings;
@@ -217,9 +217,8 @@ impl Carrier {
     pub fn lower(self) -> Silent
         ensures { result ≡ silent_with self.settings }
     {
-        Silent {
-            settings: self.settings,
-        }
+        let Carrier { settings } = self;
+        Silent { settings }
     }
 }
 
@@ -227,11 +226,11 @@ impl Locked {
     /// Writes an idle sequence of 1 to 2,000 octets at the front of the memory, and answers how many octets it has.
     /// Refused with 2 where the memory is shorter than that, and with 3 outside that range; then the memory
     /// is as it was.
-    #[tactic(auto, using(crate::proofs::Written::idle_goes_on))]
+    #[tactic(auto, using(crate::proofs::Fronts::idle_in_front))]
     pub fn idle(&self, octets: usize, memory: &mut [u8]) -> Result<usize, Refusal>
         ensures answer { result ≡ idle_answer 1 2000 octets memory.old }
         ensures memory { memory.new ≡ memory_after (repeated self.now.settings.idle octets) memory.old result }
-        ensures stretch { GoesOn self.now.settings (idles octets ∷ []) (repeated self.now.settings.idle octets) }
+        ensures stretch { IfOk result (λ count. GoesOn self.now.settings (idles octets ∷ []) (take count memory.new)) }
     {
         self.settings
             .write_idle(octets, LEAST_IDLE, MOST_IDLE, memory)
@@ -241,7 +240,6 @@ impl Locked {
     /// octets these are. Refused with 1 where the frame is empty, has more than 1,024 octets or more than the
     /// limit's codeblocks hold, or is not wholly in the frame memory, and with 2 where the memory is too short;
     /// then the memory is as it was.
-    #[tactic(auto, using(crate::proofs::Written::job_goes_on))]
     pub fn send(
         self,
         frames: &[u8],
@@ -250,16 +248,17 @@ impl Locked {
     ) -> Result<(AfterSending, usize), (Locked, Refusal)>
         ensures answer { result ≡ sending self (job_answer self.settings frames.now (only_frame frame) memory.old) }
         ensures memory { memory.new ≡ memory_after (job_octets self.settings frames.now (only_frame frame)) memory.old (job_answer self.settings frames.now (only_frame frame) memory.old) }
-        ensures stretch { GoesOn self.settings (writings_of frames.now (only_frame frame)) (job_octets self.settings frames.now (only_frame frame)) }
+        ensures stretch { IfOk result (λ done. GoesOn self.settings (writings_of frames.now (only_frame frame)) (take done.1 memory.new)) }
+        ensures fits { IfOk result (λ _. FramesWithin self.settings.sender.limit.count (frames_in (writings_of frames.now (only_frame frame)))) }
     {
         self.run(frames, Job { frame, idle: 0 }, memory)
     }
 
     /// Does the job that waits longest: writes the CLTU of its frame at the front of the memory, the idle octet of
-    /// PLOP-2, and the job's idle octets. Answers how many octets these are. The job no longer waits then. Refused
+    /// PLOP-2, and the job's idle octets. Answers how many octets these are. The job no longer waits then. In PLOP-1
+    /// the session is `Sent` behind it, so that the next job waits for a break and an acquisition. Refused
     /// with 1 and 2 as a frame is that is sent, with 3 where the job's idle octets are more than 2,000, and with
     /// 15 where no job waits; then the memory is as it was, and what waits waits on.
-    #[tactic(auto, using(crate::proofs::Written::next_goes_on))]
     pub fn run_next(
         self,
         jobs: &mut Queue<'_, Job>,
@@ -270,7 +269,8 @@ impl Locked {
         ensures memory { memory.new ≡ memory_after (next_octets self.settings frames.now (waiting jobs.old)) memory.old (next_answer self.settings frames.now (waiting jobs.old) memory.old) }
         ensures waiting { waiting jobs.new ≡ left_waiting (waiting jobs.old) (next_answer self.settings frames.now (waiting jobs.old) memory.old) }
         ensures capacity { capacity jobs.new ≡ capacity jobs.old }
-        ensures stretch { GoesOn self.settings (next_writings self.settings frames.now (waiting jobs.old)) (next_octets self.settings frames.now (waiting jobs.old)) }
+        ensures stretch { IfOk result (λ done. GoesOn self.settings (next_writings self.settings frames.now (waiting jobs.old)) (take done.1 memory.new)) }
+        ensures fits { IfOk result (λ _. FramesWithin self.settings.sender.limit.count (frames_in (next_writings self.settings frames.now (waiting jobs.old)))) }
     {
         let Some(job) = jobs.front().copied() else {
             return Err((self, Refusal::QueueEmpty));
@@ -301,19 +301,18 @@ impl Locked {
     pub fn break_modulation(self) -> Carrier
         ensures { result ≡ carrier_with self.settings }
     {
-        Carrier {
-            settings: self.settings,
-        }
+        let Locked { settings } = self;
+        Carrier { settings }
     }
 }
 
 impl Sent {
     /// Writes an idle sequence of 1 to 2,000 octets, as `Locked::idle` does.
-    #[tactic(auto, using(crate::proofs::Written::idle_goes_on))]
+    #[tactic(auto, using(crate::proofs::Fronts::idle_in_front))]
     pub fn idle(&self, octets: usize, memory: &mut [u8]) -> Result<usize, Refusal>
         ensures answer { result ≡ idle_answer 1 2000 octets memory.old }
         ensures memory { memory.new ≡ memory_after (repeated self.now.settings.idle octets) memory.old result }
-        ensures stretch { GoesOn self.now.settings (idles octets ∷ []) (repeated self.now.settings.idle octets) }
+        ensures stretch { IfOk result (λ count. GoesOn self.now.settings (idles octets ∷ []) (take count memory.new)) }
     {
         self.settings
             .write_idle(octets, LEAST_IDLE, MOST_IDLE, memory)
@@ -323,8 +322,143 @@ impl Sent {
     pub fn break_modulation(self) -> Carrier
         ensures { result ≡ carrier_with self.settings }
     {
-        Carrier {
-            settings: self.settings,
+        let Sent { settings } = self;
+        Carrier { settings }
+    }
+}
+
+#[cfg(test)]
+mod tests {
+    use super::*;
+    use std::test::Fail;
+
+    // A frame of two octets behind one octet that is not its own.
+    const FRAMES: [u8; 3] = [0xFF, 1, 2];
+
+    const FRAME: FrameSpan = FrameSpan {
+        place: 1,
+        length: 2,
+    };
+
+    // In PLOP-1, randomized, with idle AA: acquisition and idle, the CLTU, idle, and memory behind.
+    const STRETCH: [u8; 40] = [
+        0xAA, 0xAA, 0xAA, 0xAA, 0xAA, 0xAA, 0xAA, 0xAA, 0xAA, 0xAA, 0xAA, 0xAA, 0xAA, 0xAA, 0xAA,
+        0xAA, 0xAA, 0xEB, 0x90, 0xFE, 0x3B, 0xCB, 0x0F, 0x3D, 0xBC, 0x53, 0x88, 0xC5, 0xC5, 0xC5,
+        0xC5, 0xC5, 0xC5, 0xC5, 0x79, 0xAA, 0xAA, 0, 0, 0,
+    ];
+
+    // In PLOP-2, with idle 55: acquisition, the CLTU, an idle octet, a job's, and memory behind.
+    const STRETCH_WITH_JOB: [u8; 60] = [
+        0x55, 0x55, 0x55, 0x55, 0x55, 0x55, 0x55, 0x55, 0x55, 0x55, 0x55, 0x55, 0x55, 0x55, 0x55,
+        0x55, 0xEB, 0x90, 1, 2, 0x55, 0x55, 0x55, 0x55, 0x55, 0xD0, 0xC5, 0xC5, 0xC5, 0xC5, 0xC5,
+        0xC5, 0xC5, 0x79, 0x55, 0xEB, 0x90, 1, 2, 0x55, 0x55, 0x55, 0x55, 0x55, 0xD0, 0xC5, 0xC5,
+        0xC5, 0xC5, 0xC5, 0xC5, 0xC5, 0x79, 0x55, 0x55, 0x55, 0x55, 0, 0, 0,
+    ];
+
+    fn accepted<S, T: Drop>(answer: Result<S, (T, Refusal)>) -> Result<S, Refusal> {
+        answer.map_err(|(_, refusal)| refusal)
+    }
+
+    fn refused<S: Drop, T>(answer: Result<S, (T, Refusal)>) -> Result<(T, Refusal), &'static str> {
+        match answer {
+            Ok(_) => Err("not refused"),
+            Err(refused) => Ok(refused),
         }
+    }
+
+    fn now_sent(after: AfterSending) -> Result<Sent, &'static str> {
+        match after {
+            AfterSending::Sent(sent) => Ok(sent),
+            AfterSending::Locked(_) => Err("still locked"),
+        }
+    }
+
+    fn still_locked(after: AfterSending) -> Result<Locked, &'static str> {
+        match after {
+            AfterSending::Sent(_) => Err("not locked"),
+            AfterSending::Locked(locked) => Ok(locked),
+        }
+    }
+
+    #[test]
+    fn plop_1(rt: HostRuntime) -> Result<(), Fail> {
+        let mut memory = [0; 40];
+        let silent = Silent::new(Plop::One, 147, Randomizer::On, IdleOctet::OneFirst)?;
+        let carrier = silent.raise().lower().raise();
+        let (locked, acquisition) = accepted(carrier.acquire(16, &mut memory))?;
+        let idle = locked.idle(1, &mut memory[16..])?;
+        let (after, octets) = accepted(locked.send(&FRAMES, FRAME, &mut memory[17..]))?;
+        let sent = now_sent(after)?;
+        let more = sent.idle(2, &mut memory[35..])?;
+        assert!(rt; acquisition == 16 && idle == 1 && octets == 18 && more == 2);
+        assert!(rt; memory == STRETCH);
+        let _ = accepted(sent.break_modulation().acquire(255, &mut [0; 255]))?;
+        Ok(())
+    }
+
+    #[test]
+    fn plop_2_with_a_job(rt: HostRuntime) -> Result<(), Fail> {
+        let mut memory = [0; 60];
+        let job = Job {
+            frame: FRAME,
+            idle: 3,
+        };
+        let mut slots = [job; 1];
+        let mut jobs = Queue::new(&mut slots);
+        jobs.put(job)?;
+        let silent = Silent::new(Plop::Two, 1, Randomizer::Off, IdleOctet::ZeroFirst)?;
+        let (locked, _) = accepted(silent.raise().acquire(16, &mut memory))?;
+        let (after, octets) = accepted(locked.send(&FRAMES, FRAME, &mut memory[16..]))?;
+        let locked = still_locked(after)?;
+        let (after, of_job) = accepted(locked.run_next(&mut jobs, &FRAMES, &mut memory[35..]))?;
+        assert!(rt; octets == 19 && of_job == 22 && jobs.len() == 0);
+        assert!(rt; memory == STRETCH_WITH_JOB);
+        let _ = still_locked(after)?.break_modulation().lower();
+        Ok(())
+    }
+
+    #[test]
+    fn refusals(rt: HostRuntime) -> Result<(), Fail> {
+        let plop = Plop::Two;
+        for limit in [0, 148] {
+            let made = Silent::new(plop, limit, Randomizer::Off, IdleOctet::ZeroFirst);
+            assert!(rt; made.err() == Some(Refusal::CodeblockLimit));
+        }
+        let mut memory = [7; 2100];
+        let mut carrier = Silent::new(plop, 1, Randomizer::Off, IdleOctet::ZeroFirst)?.raise();
+        for (octets, refusal) in [
+            (15, Refusal::IdleLength),
+            (256, Refusal::IdleLength),
+            (2101, Refusal::MemoryTooShort),
+        ] {
+            let (back, why) = refused(carrier.acquire(octets, &mut memory))?;
+            assert!(rt; why == refusal && memory == [7; 2100]);
+            carrier = back;
+        }
+        let (mut locked, _) = accepted(carrier.acquire(16, &mut [0; 16]))?;
+        assert!(rt; locked.idle(0, &mut memory) == Err(Refusal::IdleLength));
+        assert!(rt; locked.idle(2001, &mut memory) == Err(Refusal::IdleLength));
+        for (place, length, idle, refusal) in [
+            (usize::MAX, 2, 2001, Refusal::FrameLength),
+            (2, 2, 0, Refusal::FrameLength),
+            (1, 0, 0, Refusal::FrameLength),
+            (1, 2, 2082, Refusal::MemoryTooShort),
+            (1, 2, 2001, Refusal::IdleLength),
+        ] {
+            let job = Job {
+                frame: FrameSpan { place, length },
+                idle,
+            };
+            let mut slots = [job; 1];
+            let mut jobs = Queue::new(&mut slots);
+            let (back, none) = refused(locked.run_next(&mut jobs, &FRAMES, &mut memory))?;
+            jobs.put(job)?;
+            let (back, why) = refused(back.run_next(&mut jobs, &FRAMES, &mut memory))?;
+            assert!(rt; none == Refusal::QueueEmpty && why == refusal);
+            assert!(rt; memory == [7; 2100] && jobs.front() == Some(&job));
+            locked = back;
+        }
+        let _ = locked.break_modulation();
+        Ok(())
     }
 }
