@@ -4,6 +4,7 @@
 use cltu::{CodeblockLimit, Sender};
 use command_line::{Program, Task, arguments};
 use frame_lines::{Answer, answer_line};
+use line_end::without_line_end;
 use randomizer::Randomizer;
 use std::io::{BufRead, BufReader, Read};
 use std::process::ExitCode;
@@ -63,7 +64,7 @@ fn encode(
         if input.read_until(b'\n', &mut line)? == 0 {
             break;
         }
-        let answer = answer_line(heap, sender, line_text(line.as_slice()))?;
+        let answer = answer_line(heap, sender, without_line_end(line.as_slice()))?;
         println!(rt; "{answer}")?;
         lines = lines.saturating_add(1);
         if matches!(answer, Answer::Cltu { .. }) {
@@ -72,15 +73,6 @@ fn encode(
     }
     println!(rt; "end {lines} {cltus}")?;
     Ok(())
-}
-
-// The text of a line without its end.
-fn line_text(line: &[u8]) -> &[u8] {
-    match line {
-        [text @ .., b'\r', b'\n'] => text,
-        [text @ .., b'\n'] => text,
-        _ => line,
-    }
 }
 
 fn main(rt: HostRuntime) -> anyhow::Result<ExitCode> {

@@ -1,0 +1,2 @@
+-- Proofs about the lines of a candidate. Assumes nothing.
+pub mod Coming

@@ -1,0 +1,2 @@
+-- The text of a line. Assumes nothing.
+pub mod Text
