@@ -163,7 +163,12 @@ impl<H: Hold + Drop> Link<H> {
 
     /// A frame somewhere in the frame memory, short enough for the limit.
     fn some_frame(&mut self, frames: &[u8]) -> FrameSpan {
-        let most = self.setup.limit.saturating_mul(7).min(1024).min(frames.len());
+        let most = self
+            .setup
+            .limit
+            .saturating_mul(7)
+            .min(1024)
+            .min(frames.len());
         let length = self.numbers.below(most).saturating_add(1);
         let places = frames.len().saturating_sub(length).saturating_add(1);
         FrameSpan {
@@ -215,12 +220,7 @@ impl<H: Hold + Drop> Link<H> {
     }
 
     /// A frame that has to be refused.
-    fn refuse_frame(
-        &mut self,
-        locked: Locked,
-        frames: &[u8],
-        memory: &mut [u8],
-    ) -> Result<Locked> {
+    fn refuse_frame(&mut self, locked: Locked, frames: &[u8], memory: &mut [u8]) -> Result<Locked> {
         let frame = FrameSpan {
             place: frames.len(),
             length: 1,
@@ -407,7 +407,9 @@ fn main(rt: HostRuntime) -> anyhow::Result<()> {
                         refused,
                         ..
                     } = counts;
-                    println!(rt; "PLOP-{plop}, randomizer {random}, idle {idle}, {mode}, L {limit}: {stretches} stretches, {octets} octets, {sent} frames sent, {back} back, {refused} calls refused")?;
+                    println!(rt;
+                        "PLOP-{plop}, randomizer {random}, idle {idle}, {mode}, L {limit}: {stretches} stretches, {octets} octets, {sent} frames sent, {back} back, {refused} calls refused"
+                    )?;
                     differences = differences.saturating_add(counts.differences);
                 }
             }
