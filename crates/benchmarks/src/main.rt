@@ -2,6 +2,7 @@
 #![tactic(auto)]
 
 use bch::{Accepted, Mode};
+use chain::Chain;
 use cltu::{CodeblockLimit, LONGEST_CLTU, Sender};
 use coding::{codeblock, judge};
 use command_line::{Program, Task, arguments};
@@ -230,38 +231,60 @@ impl Work for RingCalls {
         8_000_000
     }
 
-    // A candidate of two codeblocks comes and goes: eight calls each time.
     fn checksum(&self, operations: u64, round: u64) -> u64 {
         let mut cells = [Cell::EMPTY; MANY_CELLS];
         let mut ring = Ring::new(&mut cells[..self.cells.min(MANY_CELLS)]);
-        let mut checksum: u64 = round;
-        for number in 0..operations / 8 {
-            let _ = ring.open();
-            let _ = ring.add(information(number));
-            let _ = ring.add(information(round));
-            let _ = ring.finish();
-            let octet = ring.oldest_octet(3).unwrap_or(0);
-            let octets = ring.oldest_length().unwrap_or(0);
-            let _ = ring.release();
-            let free = ring.free_space() as u64;
-            checksum = folded(
-                checksum,
-                u64::from(octet)
-                    .wrapping_add(octets as u64)
-                    .wrapping_add(free),
-            );
-        }
-        checksum
+        calls_checksum(&mut ring, operations, round)
     }
 }
 
-/// Octets copied of a candidate of so many codeblocks.
+/// Calls of a chain of so many cells.
 #[derive(Clone, Copy)]
-struct Copying {
+struct ChainCalls {
+    cells: usize,
+}
+
+impl Work for ChainCalls {
+    fn operations(&self) -> u64 {
+        8_000_000
+    }
+
+    fn checksum(&self, operations: u64, round: u64) -> u64 {
+        let mut cells = [chain::Cell::EMPTY; MANY_CELLS];
+        let mut chain = Chain::new(&mut cells[..self.cells.min(MANY_CELLS)]);
+        calls_checksum(&mut chain, operations, round)
+    }
+}
+
+// A candidate of two codeblocks comes and goes: eight calls each time.
+fn calls_checksum<H: Hold>(hold: &mut H, operations: u64, round: u64) -> u64 {
+    let mut checksum: u64 = round;
+    for number in 0..operations / 8 {
+        let _ = hold.open();
+        let _ = hold.add(information(number));
+        let _ = hold.add(information(round));
+        let _ = hold.finish();
+        let octet = hold.oldest_octet(3).unwrap_or(0);
+        let octets = hold.oldest_length().unwrap_or(0);
+        let _ = hold.release();
+        let free = hold.free_space() as u64;
+        checksum = folded(
+            checksum,
+            u64::from(octet)
+                .wrapping_add(octets as u64)
+                .wrapping_add(free),
+        );
+    }
+    checksum
+}
+
+/// Octets copied from a ring of a candidate of so many codeblocks.
+#[derive(Clone, Copy)]
+struct RingCopying {
     codeblocks: usize,
 }
 
-impl Work for Copying {
+impl Work for RingCopying {
     fn operations(&self) -> u64 {
         40_000_000
     }
@@ -269,15 +292,38 @@ impl Work for Copying {
     fn checksum(&self, operations: u64, round: u64) -> u64 {
         let mut cells = [Cell::EMPTY; 147];
         let mut ring = Ring::new(&mut cells);
-        let _ = ring.open();
-        for _ in 0..self.codeblocks {
-            let _ = ring.add(information(round));
-        }
-        let _ = ring.finish();
-        let mut memory = [0u8; 1_029];
-        let octets = (self.codeblocks as u64).saturating_mul(7).max(1);
-        copied_checksum(&ring, &mut memory, operations / octets, round)
+        copying_checksum(&mut ring, self.codeblocks, operations, round)
     }
+}
+
+/// Octets copied from a chain of a candidate of so many codeblocks.
+#[derive(Clone, Copy)]
+struct ChainCopying {
+    codeblocks: usize,
+}
+
+impl Work for ChainCopying {
+    fn operations(&self) -> u64 {
+        40_000_000
+    }
+
+    fn checksum(&self, operations: u64, round: u64) -> u64 {
+        let mut cells = [chain::Cell::EMPTY; 147];
+        let mut chain = Chain::new(&mut cells);
+        copying_checksum(&mut chain, self.codeblocks, operations, round)
+    }
+}
+
+// A candidate of so many codeblocks is copied again and again.
+fn copying_checksum<H: Hold>(hold: &mut H, codeblocks: usize, operations: u64, round: u64) -> u64 {
+    let _ = hold.open();
+    for _ in 0..codeblocks {
+        let _ = hold.add(information(round));
+    }
+    let _ = hold.finish();
+    let mut memory = [0u8; 1_029];
+    let octets = (codeblocks as u64).saturating_mul(7).max(1);
+    copied_checksum(hold, &mut memory, operations / octets, round)
 }
 
 fn copied_checksum<H: Hold>(hold: &H, memory: &mut [u8], copies: u64, round: u64) -> u64 {
@@ -689,11 +735,26 @@ fn time_ring(rt: &(impl Print + Clock)) -> anyhow::Result<()> {
     let large = RingCalls { cells: MANY_CELLS };
     let small = RingCalls { cells: FEW_CELLS };
     let _ = compare(rt, "call of a ring, 8,192 cells against 8", &large, &small)?;
-    let long = Copying { codeblocks: 147 };
-    let short = Copying { codeblocks: 7 };
+    let long = RingCopying { codeblocks: 147 };
+    let short = RingCopying { codeblocks: 7 };
     let _ = compare(
         rt,
-        "octet of a copy, candidate of 147 codeblocks against 7",
+        "octet of a copy from a ring, candidate of 147 codeblocks against 7",
+        &long,
+        &short,
+    )?;
+    Ok(())
+}
+
+fn time_chain(rt: &(impl Print + Clock)) -> anyhow::Result<()> {
+    let large = ChainCalls { cells: MANY_CELLS };
+    let small = ChainCalls { cells: FEW_CELLS };
+    let _ = compare(rt, "call of a chain, 8,192 cells against 8", &large, &small)?;
+    let long = ChainCopying { codeblocks: 147 };
+    let short = ChainCopying { codeblocks: 7 };
+    let _ = compare(
+        rt,
+        "octet of a copy from a chain, candidate of 147 codeblocks against 7",
         &long,
         &short,
     )?;
@@ -738,6 +799,7 @@ fn time(rt: &(impl Print + Clock)) -> anyhow::Result<()> {
     time_verdict(rt)?;
     time_writing(rt)?;
     time_ring(rt)?;
+    time_chain(rt)?;
     time_symbols(rt)
 }
 

@@ -1,7 +1,9 @@
-//! Runs one long list of operations on a hold and on a model of it that keeps lists, and compares
-//! every answer: over a ring that wraps many times, over the derandomizing layer, and over no cells.
+//! Runs one long list of operations on a ring, on a chain and on a model of a hold that keeps lists, and
+//! compares every answer: where the cells are used many times, where they held something before, under the
+//! derandomizing layer, and with no cells.
 #![tactic(auto)]
 
+use chain::Chain;
 use derandomizing::Derandomizing;
 use hold::{Hold, copy_oldest};
 use randomizer::Randomizer;
@@ -131,6 +133,40 @@ impl Model {
             .copied()
             .ok_or(Refusal::PastCandidateEnd)
     }
+
+    /// Whether a hold answers all questions as the model does, and has the oldest candidate in three ways.
+    fn is_answered_by<H: Hold>(&self, hold: &H, place: usize) -> bool {
+        hold.free_space() == self.free_space()
+            && hold.open_codeblocks() == self.open_codeblocks()
+            && hold.finished_count() == self.finished.len()
+            && hold.oldest_octet(place) == self.oldest_octet(place)
+            && self.is_copied_by(hold, place)
+    }
+
+    /// The oldest candidate's length, a copy of it, and a stretch.
+    fn is_copied_by<H: Hold>(&self, hold: &H, place: usize) -> bool {
+        let mut memory = [0xEEu8; 64];
+        let copied = copy_oldest(hold, &mut memory);
+        match self.finished.front() {
+            None => copied == Err(Refusal::NoCandidate) && memory == [0xEEu8; 64],
+            Some(candidate) => {
+                hold.oldest_length() == Ok(candidate.len())
+                    && copied == Ok(candidate.len())
+                    && memory.get(0..candidate.len()) == Some(candidate.as_slice())
+                    && has_stretch(hold, candidate.as_slice(), place)
+            }
+        }
+    }
+}
+
+/// Whether a hold reads three octets from a place on of this candidate, or refuses and leaves the memory.
+fn has_stretch<H: Hold>(hold: &H, candidate: &[u8], place: usize) -> bool {
+    let mut memory = [0xEEu8; 3];
+    let read = hold.read_oldest(place, &mut memory);
+    match candidate.get(place..place.saturating_add(3)) {
+        Some(stretch) => read == Ok(()) && stretch == memory.as_slice(),
+        None => read == Err(Refusal::PastCandidateEnd) && memory == [0xEEu8; 3],
+    }
 }
 
 /// Whether the model answers what the hold answered.
@@ -142,61 +178,46 @@ fn alike(answer: Result<(), Refusal>, model: Result<(), Failure>) -> Result<bool
     }
 }
 
-/// A hold, the model of it, and the numbers that choose what is done to both.
+/// Two holds, a model of both, and the numbers that choose what is done to them.
 #[derive(Drop)]
-struct Trial<H> {
-    hold: H,
+struct Trial<R, C> {
+    ring: R,
+    chain: C,
     model: Model,
     numbers: Numbers,
 }
 
-impl<H: Hold> Trial<H> {
-    /// One operation, chosen by a number: whether hold and model answer alike.
+impl<R: Hold, C: Hold> Trial<R, C> {
+    /// One operation, chosen by a number: whether the holds and the model answer alike.
     fn operation(&mut self) -> Result<bool, AllocError> {
-        match self.numbers.next() % 16 {
-            0 | 1 => Ok(self.hold.open() == self.model.open()),
+        let (ring, chain, alike) = match self.numbers.next() % 16 {
+            0 | 1 => {
+                let ring = self.ring.open();
+                (ring, self.chain.open(), ring == self.model.open())
+            }
             2..=8 => {
                 let octets: [u8; 7] = array::from_fn(|_| (self.numbers.next() & 0xff) as u8);
-                alike(self.hold.add(octets), self.model.add(octets))
+                let ring = self.ring.add(octets);
+                (
+                    ring,
+                    self.chain.add(octets),
+                    alike(ring, self.model.add(octets))?,
+                )
             }
-            9 | 10 => alike(self.hold.finish(), self.model.finish()),
-            11 => Ok(self.hold.abandon() == self.model.abandon()),
-            _ => Ok(self.hold.release() == self.model.release()),
-        }
-    }
-
-    /// The questions, and the oldest candidate in three ways: whether hold and model answer alike.
-    fn questions(&self, place: usize) -> bool {
-        self.hold.free_space() == self.model.free_space()
-            && self.hold.open_codeblocks() == self.model.open_codeblocks()
-            && self.hold.finished_count() == self.model.finished.len()
-            && self.hold.oldest_octet(place) == self.model.oldest_octet(place)
-            && self.copies(place)
-    }
-
-    /// The oldest candidate's length, a copy of it, and a stretch.
-    fn copies(&self, place: usize) -> bool {
-        let mut memory = [0xEEu8; 64];
-        let copied = copy_oldest(&self.hold, &mut memory);
-        match self.model.finished.front() {
-            None => copied == Err(Refusal::NoCandidate) && memory == [0xEEu8; 64],
-            Some(candidate) => {
-                self.hold.oldest_length() == Ok(candidate.len())
-                    && copied == Ok(candidate.len())
-                    && memory.get(0..candidate.len()) == Some(candidate.as_slice())
-                    && self.stretch(candidate.as_slice(), place)
+            9 | 10 => {
+                let ring = self.ring.finish();
+                (ring, self.chain.finish(), alike(ring, self.model.finish())?)
             }
-        }
-    }
-
-    /// Three octets from a place on, or a refusal and the memory as it was.
-    fn stretch(&self, candidate: &[u8], place: usize) -> bool {
-        let mut memory = [0xEEu8; 3];
-        let read = self.hold.read_oldest(place, &mut memory);
-        match candidate.get(place..place.saturating_add(3)) {
-            Some(stretch) => read == Ok(()) && stretch == memory.as_slice(),
-            None => read == Err(Refusal::PastCandidateEnd) && memory == [0xEEu8; 3],
-        }
+            11 => {
+                let ring = self.ring.abandon();
+                (ring, self.chain.abandon(), ring == self.model.abandon())
+            }
+            _ => {
+                let ring = self.ring.release();
+                (ring, self.chain.release(), ring == self.model.release())
+            }
+        };
+        Ok(alike && ring == chain)
     }
 
     /// How many of so many operations were answered otherwise than by the model.
@@ -205,7 +226,10 @@ impl<H: Hold> Trial<H> {
         for _ in 0..operations {
             let alike = self.operation()?;
             let place = (self.numbers.next() % 40) as usize;
-            if !alike || !self.questions(place) {
+            if !alike
+                || !self.model.is_answered_by(&self.ring, place)
+                || !self.model.is_answered_by(&self.chain, place)
+            {
                 otherwise = otherwise.saturating_add(1);
             }
         }
@@ -213,16 +237,18 @@ impl<H: Hold> Trial<H> {
     }
 }
 
-/// Does so many operations to an empty hold and to the model of it, and prints how they were answered.
-fn tried<H: Hold + Drop>(
+/// Does so many operations to two empty holds and to the model of them, and prints how they were answered.
+fn tried<R: Hold + Drop, C: Hold + Drop>(
     rt: &HostRuntime,
     what: &str,
-    hold: H,
+    ring: R,
+    chain: C,
     model: Model,
     operations: u32,
 ) -> anyhow::Result<()> {
     let mut trial = Trial {
-        hold,
+        ring,
+        chain,
         model,
         numbers: Numbers(1),
     };
@@ -236,18 +262,37 @@ fn tried<H: Hold + Drop>(
 fn main(rt: HostRuntime) -> anyhow::Result<()> {
     let heap = rt.alloc();
     let mut cells = [Cell::EMPTY; 5];
-    let ring = Ring::new(&mut cells);
+    let mut links = [chain::Cell::EMPTY; 5];
+    let (ring, chain) = (Ring::new(&mut cells), Chain::new(&mut links));
     let model = Model::new(heap, 5, Randomizer::Off);
-    tried(&rt, "ring of 5 cells", ring, model, 20000)?;
+    tried(&rt, "ring and chain of 5 cells", ring, chain, model, 20000)?;
 
-    let mut cells = [Cell::EMPTY; 5];
-    let layer = Derandomizing::over(Ring::new(&mut cells));
+    let (ring, chain) = (Ring::new(&mut cells), Chain::new(&mut links));
+    let model = Model::new(heap, 5, Randomizer::Off);
+    tried(
+        &rt,
+        "ring and chain of the same cells",
+        ring,
+        chain,
+        model,
+        2000,
+    )?;
+
+    let ring = Derandomizing::over(Ring::new(&mut cells));
+    let chain = Derandomizing::over(Chain::new(&mut links));
     let model = Model::new(heap, 5, Randomizer::On);
-    tried(&rt, "layer over a ring of 5 cells", layer, model, 20000)?;
+    tried(&rt, "layers over both", ring, chain, model, 20000)?;
+
+    let mut cells = [Cell::EMPTY; 9];
+    let mut links = [chain::Cell::EMPTY; 9];
+    let (ring, chain) = (Ring::new(&mut cells), Chain::new(&mut links));
+    let model = Model::new(heap, 9, Randomizer::Off);
+    tried(&rt, "ring and chain of 9 cells", ring, chain, model, 20000)?;
 
     let mut cells = [Cell::EMPTY; 0];
-    let ring = Ring::new(&mut cells);
+    let mut links = [chain::Cell::EMPTY; 0];
+    let (ring, chain) = (Ring::new(&mut cells), Chain::new(&mut links));
     let model = Model::new(heap, 0, Randomizer::Off);
-    tried(&rt, "ring of no cells", ring, model, 2000)?;
+    tried(&rt, "ring and chain of no cells", ring, chain, model, 2000)?;
     Ok(())
 }

@@ -3,6 +3,7 @@
 
 use anyhow::Context;
 use bch::Mode;
+use chain::Chain;
 use cltu::{CodeblockLimit, LONGEST_CLTU, Sender};
 use decoding::Settings;
 use derandomizing::Derandomizing;
@@ -93,12 +94,20 @@ enum Feed {
     Mixed,
 }
 
+/// Which hold a receiver is made over.
+#[derive(Clone, Copy)]
+enum Store {
+    Ring,
+    Chain,
+}
+
 /// What a receiver, its hold and its queue are made with, and what they meet.
 #[derive(Clone, Copy)]
 struct Setup {
     settings: Settings,
     /// Whether frames are randomized, and the hold takes the sequence off again.
     randomizer: Randomizer,
+    store: Store,
     /// How many codeblocks the hold has room for.
     cells: usize,
     /// How many reports the queue has room for.
@@ -690,6 +699,7 @@ fn any_setup(numbers: &mut Numbers) -> anyhow::Result<Setup> {
     Ok(Setup {
         settings,
         randomizer,
+        store: Store::Ring,
         cells: numbers.pick(&[1, 2, 3, 5, 8, 13, 200]),
         slots: numbers.pick(&[1, 2, 5, 9]),
         taken: true,
@@ -808,7 +818,31 @@ impl Trial for Idle {
     }
 }
 
-/// A trial over a hold that matches the sender.
+/// A trial over a hold that matches the sender: this one, which alters no octet, or the layer over it.
+fn run_over<H: Hold + Drop, T: Trial>(
+    heap: Global,
+    setup: Setup,
+    hold: H,
+    trial: &T,
+    numbers: &mut Numbers,
+    tally: &mut Tally,
+) -> anyhow::Result<()> {
+    let mut slots = vec![in heap; Report::UNUSED; setup.slots]?;
+    let slots = slots.as_mut_slice();
+    match setup.randomizer {
+        Randomizer::Off => {
+            let none = Vec::new(heap);
+            trial.run(&mut Bench::new(heap, setup, hold, slots, none, numbers, tally))
+        }
+        Randomizer::On => {
+            let sequence = sequence(heap, 1029)?;
+            let layer = Derandomizing::over(hold);
+            trial.run(&mut Bench::new(heap, setup, layer, slots, sequence, numbers, tally))
+        }
+    }
+}
+
+/// A trial with the hold that the setup wants.
 fn run<T: Trial>(
     heap: Global,
     setup: Setup,
@@ -816,19 +850,16 @@ fn run<T: Trial>(
     numbers: &mut Numbers,
     tally: &mut Tally,
 ) -> anyhow::Result<()> {
-    let mut cells = vec![in heap; Cell::EMPTY; setup.cells]?;
-    let mut slots = vec![in heap; Report::UNUSED; setup.slots]?;
-    let slots = slots.as_mut_slice();
-    let ring = Ring::new(cells.as_mut_slice());
-    match setup.randomizer {
-        Randomizer::Off => {
-            let none = Vec::new(heap);
-            trial.run(&mut Bench::new(heap, setup, ring, slots, none, numbers, tally))
+    match setup.store {
+        Store::Ring => {
+            let mut cells = vec![in heap; Cell::EMPTY; setup.cells]?;
+            let ring = Ring::new(cells.as_mut_slice());
+            run_over(heap, setup, ring, trial, numbers, tally)
         }
-        Randomizer::On => {
-            let sequence = sequence(heap, 1029)?;
-            let layer = Derandomizing::over(ring);
-            trial.run(&mut Bench::new(heap, setup, layer, slots, sequence, numbers, tally))
+        Store::Chain => {
+            let mut cells = vec![in heap; chain::Cell::EMPTY; setup.cells]?;
+            let chain = Chain::new(cells.as_mut_slice());
+            run_over(heap, setup, chain, trial, numbers, tally)
         }
     }
 }
@@ -898,6 +929,18 @@ impl<R: Print + AllocGlobal> Trials<'_, R> {
         self.tried(what, 100, |setup| Setup { feed, ..setup }, &Pass)
     }
 
+    /// Passes over a chain, and over the derandomizing layer over a chain.
+    fn over_a_chain(&mut self) -> anyhow::Result<()> {
+        self.numbers = Numbers::new(4);
+        let store = Store::Chain;
+        self.tried(
+            "passes over a chain",
+            200,
+            |setup| Setup { store, ..setup },
+            &Pass,
+        )
+    }
+
     /// The idle bit at which a receiver with this limit is back in SEARCH.
     fn recovery_bits(&mut self, limit: usize, first: bool) -> anyhow::Result<()> {
         let mut tally = Tally::default();
@@ -956,6 +999,7 @@ fn main(rt: HostRuntime) -> anyhow::Result<()> {
     trials.fed("passes as bits", Feed::Bits)?;
     trials.fed("the same as soft levels", Feed::SoftLevels)?;
     trials.fed("the same as both", Feed::Mixed)?;
+    trials.over_a_chain()?;
     for limit in [1, 2, 37, 147] {
         trials.recovery_bits(limit, false)?;
         trials.recovery_bits(limit, true)?;

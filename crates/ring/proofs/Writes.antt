@@ -11,15 +11,10 @@ use Rattle.ring.specs.Cells.{octets_in, octets_of, first_count, grouped, parted,
 use Rattle.ring.specs.Held.{in_turn, capacity_of, finished_in, opened_in, Open}
 use Rattle.ring.specs.Sound.{length_octets_take}
 use Rattle.ring.proofs.Groups.{shown_plain, octets_in_seven, Behind, behind}
+use Rattle.ring.proofs.Oldest.{finish_answered, none_open}
 use Rattle.ring.proofs.Turns.{finished_is_used, open_is_added, few_wait}
 
 -- what finishing makes of a candidate that is not empty
-finish_answered : (candidate : Candidate) → 0 < length candidate → finish_answer (Some candidate) ≡ Ok tt
-finish_answered candidate h = grind (arith, common_steps)
-
-none_open : (candidate : Candidate) → 0 < length candidate → open_after_finish (Some candidate) ≡ None
-none_open candidate h = grind (arith, common_steps)
-
 last_finished : (finished : List Candidate) (candidate : Candidate) → 0 < length candidate → finished_after_finish finished (Some candidate) ≡ finished ++ candidate ∷ []
 last_finished finished candidate h = grind (arith, common_steps)
 
@@ -116,10 +111,11 @@ module _ (ring : Ring) (codeblocks : ℕ) (is_open : ring.unfinished ≡ Some co
       pub counted_whole : parted (ring.waiting + 1) (take (ring.used + codeblocks) (set (in_turn ring) ring.used counted_cell)) ≡ true
       counted_whole = ap₂ parted (add-one ring.waiting) all_cells ∙ last_behind.whole
 
-pub is_open : (ring : Ring) (codeblocks : ℕ) → ring.unfinished ≡ Some codeblocks → Open ring codeblocks
+pub is_open : (ring : Ring) (codeblocks : ℕ) → ring.unfinished ≡ Some codeblocks → Open ring.unfinished ring.waiting (opened_in ring) codeblocks
 is_open ring codeblocks is =
     record {
       is = is;
+      fits = omega (arith, ring.within, ring.most, ap added is);
       few = λ some. omega (arith, few_wait ring, ring.within, ring.most, ap added is);
       answer = λ some. answered ring codeblocks is some;
       closed = λ some. closed ring codeblocks is some;

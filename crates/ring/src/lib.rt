@@ -5,7 +5,7 @@ ghost use Rattle.std.specs.Prelude.{◌≡◌, ◌+◌, ◌-◌, ◌<◌, ◌≤
 ghost use Rattle.randomizer.specs.declared.Randomizer.TheVariants.{Off};
 ghost use Rattle.hold.specs.Candidates.{Matches, finished_codeblocks, open_codeblocks, oldest_octet, stretch_answer, after_stretch};
 ghost use Rattle.ring.specs.Cells.{plain_showing, added};
-ghost use Rattle.ring.specs.Held.{capacity_of, finished_in, opened_in, oldest_of, shows_apart, sound_ring, Open, NoneOpen, NoneWaits, Oldest};
+ghost use Rattle.ring.specs.Held.{capacity_of, used_cells, finished_in, opened_in, oldest_of, shows_apart, sound_ring, Open, NoneOpen, NoneWaits, Oldest};
 
 use circular::Circle;
 use hold::Hold;
@@ -59,7 +59,7 @@ impl<'a> Ring<'a> {
     // How many codeblocks the open candidate has. Refused where none is open.
     #[tactic(auto, using(crate::proofs::Writes::is_open))]
     fn unfinished_codeblocks(&self) -> Result<usize, Refusal>
-        ensures { MatchResult result (Open self.now) (NoneOpen self.now) }
+        ensures { MatchResult result (Open self.now.unfinished self.now.waiting (opened_in self.now)) (NoneOpen self.now.unfinished) }
     {
         self.unfinished.ok_or(Refusal::NoCandidateOpen)
     }
@@ -67,7 +67,7 @@ impl<'a> Ring<'a> {
     // How many codeblocks the oldest finished candidate has. Refused where none waits.
     #[tactic(auto, using(crate::proofs::Turns::oldest_counted, crate::proofs::Turns::few_wait))]
     fn oldest(&self) -> Result<usize, Refusal>
-        ensures { MatchResult result (Oldest self.now) (NoneWaits self.now) }
+        ensures { MatchResult result (Oldest self.now.waiting self.now.used (used_cells self.now)) (NoneWaits (finished_in self.now)) }
     {
         if self.waiting == 0 {
             return Err(Refusal::NoCandidate);
@@ -86,7 +86,7 @@ impl<'a> Ring<'a> {
     }
 
     // Reads a stretch of the oldest finished candidate, from a place on, into memory that is as long.
-    #[tactic(auto, using(crate::proofs::Turns::oldest_short, crate::proofs::Turns::read_more, crate::proofs::Turns::stretch_answered, crate::proofs::Turns::all_read))]
+    #[tactic(auto, using(crate::proofs::Turns::oldest_short, crate::proofs::Oldest::read_more, crate::proofs::Turns::stretch_answered, crate::proofs::Turns::all_read))]
     fn read(&self, place: usize, memory: &mut [u8])
         requires { (0 < self.now.waiting) × (length memory.old ≤ length (oldest_of (finished_in self.now)) - place) }
         ensures answer { stretch_answer (finished_in self.now) place memory.old ≡ Ok tt }

@@ -1,0 +1,6 @@
+-- Laws of chains. Assumes nothing.
+pub mod Links
+pub mod Begin
+pub mod Oldest
+pub mod Writes
+pub mod Releases
