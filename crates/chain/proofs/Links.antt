@@ -138,7 +138,7 @@ module _ (cells : List Cell) (first : ℕ) (once : EachOnce (length cells) (node
       few true = omega arith
       few false = omega arith
 
-  -- three stretches of the cells have no cell twice
+  -- three runs of cells have no cell twice
   three : (j n r place : ℕ) → j + (n + r) ≡ length cells →
       times place (nodes j cells first) + (times place (nodes n cells (after j cells first)) + times place (nodes r cells (after n cells (after j cells first)))) ≤ 1
   three j n r place e =
@@ -147,7 +147,7 @@ module _ (cells : List Cell) (first : ℕ) (once : EachOnce (length cells) (node
       let behind = ap (times place) (nodes_add cells n r (after j cells first)) ∙ times_append place (nodes n cells (after j cells first)) (nodes r cells (after n cells (after j cells first))) in
       omega (arith, all, behind, at_most_once place)
 
-  -- a cell is in no stretch before it and in none behind it
+  -- a cell is in no run before it and in none behind it
   pub behind_it : (k j n : ℕ) → k < j → j + n ≤ length cells → times (after k cells first) (nodes n cells (after j cells first)) ≡ 0
   behind_it k j n h fits = omega (arith, three j n (length cells - (j + n)) (after k cells first) (omega arith), occurs cells j k first h)
 

@@ -11,7 +11,7 @@ use Rattle.ring.proofs.Waiting.{octet_inside}
 use Rattle.ring.proofs.Oldest.{few, first, length_first, is_oldest, stretch_answered_first, short_first, all_read_first, some_wait, read_more}
 use Rattle.chain.specs.declared.cells.Cell.{Cell}
 use Rattle.chain.specs.declared.cells.Chain.{Chain}
-use Rattle.chain.specs.Links.{cell_at, after, Node, nodes, rooms, nowhere, place_in, ended}
+use Rattle.chain.specs.Links.{cell_at, after, Node, nodes, rooms, no_node, place_in, last_cells_noted}
 use Rattle.chain.specs.Sound.{length_rooms}
 use Rattle.chain.specs.Held.{capacity_of, used_nodes, used_rooms, finished_in}
 use Rattle.chain.proofs.Links.{length_nodes, get_nodes, below, after_more}
@@ -23,24 +23,24 @@ first_counted : (n : ℕ) (cells : List Cell) (place : ℕ) → 0 < n → first_
 first_counted zero cells place h = absurd (omega arith)
 first_counted (suc n) cells place h = refl
 
-first_last : (n : ℕ) (cells : List Cell) (place : ℕ) → 0 < n → (get_or (nodes n cells place) 0 nowhere).last ≡ (cell_at cells place).last
+first_last : (n : ℕ) (cells : List Cell) (place : ℕ) → 0 < n → (get_or (nodes n cells place) 0 no_node).last ≡ (cell_at cells place).last
 first_last zero cells place h = absurd (omega arith)
 first_last (suc n) cells place h = refl
 
 -- the first cell of the oldest candidate has the place of its last, and the others' do too
 pub record Ends (n : ℕ) (list : List Node) : Type 0 where
-  pub first : (get_or list 0 nowhere).last ≡ place_in list (first_count (rooms list) - 1)
-  pub rest : ended (n - 1) (drop (first_count (rooms list)) list) ≡ true
+  pub first : (get_or list 0 no_node).last ≡ place_in list (first_count (rooms list) - 1)
+  pub rest : last_cells_noted (n - 1) (drop (first_count (rooms list)) list) ≡ true
 
-pub ends_of : (n : ℕ) (list : List Node) → 0 < n → ended n list ≡ true → Ends n list
+pub ends_of : (n : ℕ) (list : List Node) → 0 < n → last_cells_noted n list ≡ true → Ends n list
 ends_of zero list h whole = absurd (omega arith)
 ends_of (suc n) list h whole =
     let count = first_count (rooms list) in
-    let two = and_parts (eqb (get_or list 0 nowhere).last (place_in list (count - 1))) (ended n (drop count list)) whole in
+    let two = and_parts (eqb (get_or list 0 no_node).last (place_in list (count - 1))) (last_cells_noted n (drop count list)) whole in
     let less : suc n - 1 ≡ n = omega arith in
     record {
-      first = eqb-true (get_or list 0 nowhere).last (place_in list (count - 1)) two.0;
-      rest = ap (λ k. ended k (drop count list)) less ∙ two.1;
+      first = eqb-true (get_or list 0 no_node).last (place_in list (count - 1)) two.0;
+      rest = ap (λ k. last_cells_noted k (drop count list)) less ∙ two.1;
     }
 
 module _ (chain : Chain) where
@@ -77,7 +77,7 @@ module _ (chain : Chain) where
     end_cell n counted =
         sym (first_last chain.used cells chain.first (omega (arith, few_wait)))
         ∙ oldest_ends.first ∙ ap (λ k. place_in (used_nodes chain) (k - 1)) (sym counted)
-        ∙ ap (λ node. node.place) (get_nodes cells chain.used (n - 1) chain.first nowhere (omega (arith, oldest_first.some, oldest_first.within, length_used)))
+        ∙ ap (λ node. node.place) (get_nodes cells chain.used (n - 1) chain.first no_node (omega (arith, oldest_first.some, oldest_first.within, length_used)))
 
     pub oldest_is : (n : ℕ) → n ≡ first_count (used_rooms chain) → Oldest chain.waiting chain.used (used_rooms chain) n
     oldest_is = is_oldest chain.waiting chain.used (used_rooms chain) length_used chain.chained.whole some
@@ -113,10 +113,10 @@ module _ (chain : Chain) where
         let oldest = oldest_first some in
         let before : place / 7 < c = omega (arith, length_oldest some) in
         let inside : place / 7 < chain.used = omega (arith, oldest.within, length_used) in
-        ap (λ node. get_or node.room.octets (place % 7) 0) (sym (get_nodes cells chain.used (place / 7) chain.first nowhere inside))
+        ap (λ node. get_or node.room.octets (place % 7) 0) (sym (get_nodes cells chain.used (place / 7) chain.first no_node inside))
         ∙ ap (λ room. get_or room.octets (place % 7) 0)
         (sym (get_or-take c (used_rooms chain) (place / 7) no_room before
-        ∙ get_or-map (λ node. node.room) (used_nodes chain) (place / 7) nowhere no_room (omega (arith, length_nodes cells chain.used chain.first))))
+        ∙ get_or-map (λ node. node.room) (used_nodes chain) (place / 7) no_node no_room (omega (arith, length_nodes cells chain.used chain.first))))
         ∙ sym (ap (λ fs. get_or (oldest_of fs) place 0) oldest.candidates ∙ get_or_octets_of (take c (used_rooms chain)) place no_room (omega (arith, length_oldest some, length-take-le c (used_rooms chain) oldest.within)))
 
     pub octet_answered : oldest_octet (finished_in chain) place ≡ Ok (get_or (cell_at cells (after (place / 7) cells chain.first)).octets (place % 7) 0)

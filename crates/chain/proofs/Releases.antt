@@ -7,7 +7,7 @@ use Rattle.hold.specs.Candidates.{after_release}
 use Rattle.ring.specs.Cells.{first_count, grouped, parted, added, unfinished_in}
 use Rattle.chain.specs.declared.cells.Cell.{Cell}
 use Rattle.chain.specs.declared.cells.Chain.{Chain}
-use Rattle.chain.specs.Links.{Chained, blank, cell_at, after, nodes, rooms, times, EachOnce, nowhere, ended, relinked, moved_behind, first_behind}
+use Rattle.chain.specs.Links.{Chained, blank, cell_at, after, nodes, rooms, times, EachOnce, no_node, last_cells_noted, relinked, moved_behind, first_behind}
 use Rattle.chain.specs.Held.{capacity_of, used_nodes, used_rooms, finished_in, opened_in}
 use Rattle.ring.specs.Held.{Oldest}
 use Rattle.chain.proofs.Links.{nodes_add, after_add, after_more, length_nodes, get_nodes, times_append, after_elsewhere, nodes_elsewhere, nodes_relinked, after_relinked, before_it, behind_it, below, occurs}
@@ -37,8 +37,8 @@ module _ (m : ℕ) (later cells : List Cell) (from place : ℕ) (same : nodes m 
 
   pub same_place : (u : ℕ) → u < m → after u later from ≡ after u cells place
   same_place u h =
-      ap (λ node. node.place) (sym (get_nodes later m u from nowhere h)) ∙ ap (λ l. (get_or l u nowhere).place) same
-      ∙ ap (λ node. node.place) (get_nodes cells m u place nowhere h)
+      ap (λ node. node.place) (sym (get_nodes later m u from no_node h)) ∙ ap (λ l. (get_or l u no_node).place) same
+      ∙ ap (λ node. node.place) (get_nodes cells m u place no_node h)
 
 -- the first n cells are put behind the m that follow them
 pub record Moves (chain : Chain) (n m : ℕ) (now : List Cell) (front : ℕ) : Type 0 where
@@ -307,7 +307,7 @@ module _ (chain : Chain) (n : ℕ) (oldest : Oldest chain.waiting chain.used (us
         within = omega (arith, moved_left.as_many, chain.chained.within);
         each_once = moved_left.once;
         whole = ap (parted (chain.waiting - 1)) rooms_left ∙ (oldest_first chain oldest.some).whole;
-        ends = ap (ended (chain.waiting - 1)) used_left ∙ (oldest_ends chain oldest.some).rest;
+        ends = ap (last_cells_noted (chain.waiting - 1)) used_left ∙ (oldest_ends chain oldest.some).rest;
         opens = opens_left;
         frees = sym moved_left.behind;
         finishes = λ h.

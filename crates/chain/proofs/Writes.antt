@@ -12,7 +12,7 @@ use Rattle.ring.specs.Held.{Open}
 use Rattle.ring.proofs.Oldest.{finish_answered, none_open}
 use Rattle.chain.specs.declared.cells.Cell.{Cell}
 use Rattle.chain.specs.declared.cells.Chain.{Chain}
-use Rattle.chain.specs.Links.{Chained, blank, cell_at, after, Node, node_of, nodes, rooms, times, EachOnce, nowhere, place_in, ended, filled, noted}
+use Rattle.chain.specs.Links.{Chained, blank, cell_at, after, Node, node_of, nodes, rooms, times, EachOnce, no_node, place_in, last_cells_noted, filled, noted}
 use Rattle.chain.specs.Sound.{length_rooms}
 use Rattle.chain.specs.Held.{capacity_of, finished_in, opened_in, finished_is_used, open_is_added}
 use Rattle.chain.proofs.Links.{nodes_add, after_add as after_sum, after_more, get_nodes, nodes_elsewhere, after_stays, times_stay, before_it, behind_it, below}
@@ -23,9 +23,9 @@ last_finished : (finished : List Candidate) (candidate : Candidate) → 0 < leng
 last_finished finished candidate h = grind (arith, common_steps)
 
 -- one more candidate behind the others
-module _ (last : List Node) (some : 0 < first_count (rooms last)) (noted_last : (get_or last 0 nowhere).last ≡ place_in last (first_count (rooms last) - 1)) where
-  ended_behind : (n : ℕ) (list : List Node) → parted n (rooms list) ≡ true → ended n list ≡ true → ended (suc n) (list ++ last) ≡ true
-  ended_behind zero [] parts is = and_from (eqb (get_or last 0 nowhere).last (place_in last (first_count (rooms last) - 1))) true (eq-eqb _ _ noted_last) refl
+module _ (last : List Node) (some : 0 < first_count (rooms last)) (noted_last : (get_or last 0 no_node).last ≡ place_in last (first_count (rooms last) - 1)) where
+  ended_behind : (n : ℕ) (list : List Node) → parted n (rooms list) ≡ true → last_cells_noted n list ≡ true → last_cells_noted (suc n) (list ++ last) ≡ true
+  ended_behind zero [] parts is = and_from (eqb (get_or last 0 no_node).last (place_in last (first_count (rooms last) - 1))) true (eq-eqb _ _ noted_last) refl
   ended_behind zero (node ∷ list) parts is = absurd (omega (arith, eqb-true (suc (length (rooms list))) 0 parts))
   ended_behind (suc n) [] parts is = absurd (omega (arith, (part_of n [] parts).some))
   ended_behind (suc n) (node ∷ list) parts is =
@@ -33,12 +33,12 @@ module _ (last : List Node) (some : 0 < first_count (rooms last)) (noted_last : 
       let all = node ∷ list in
       let p = part_of n (rooms all) parts in
       let long = length-map list (λ x. x.room) in
-      let two = and_parts (eqb node.last (place_in all (c - 1))) (ended n (drop c all)) is in
-      let place = ap (λ x. x.place) (get_or_append_left all last nowhere (c - 1) (omega (arith, p.some, p.within, long))) in
+      let two = and_parts (eqb node.last (place_in all (c - 1))) (last_cells_noted n (drop c all)) is in
+      let place = ap (λ x. x.place) (get_or_append_left all last no_node (c - 1) (omega (arith, p.some, p.within, long))) in
       let dropped = drop-append-le c all last (omega (arith, p.within, long)) in
-      and_from (eqb node.last (place_in (all ++ last) (c - 1))) (ended (suc n) (drop c (all ++ last)))
+      and_from (eqb node.last (place_in (all ++ last) (c - 1))) (last_cells_noted (suc n) (drop c (all ++ last)))
       (eq-eqb _ _ (eqb-true _ _ two.0 ∙ sym place))
-      (ap (ended (suc n)) dropped ∙ ended_behind n (drop c all) (ap (parted n) (sym (drop-map (λ x. x.room) c all)) ∙ p.rest) two.1)
+      (ap (last_cells_noted (suc n)) dropped ∙ ended_behind n (drop c all) (ap (parted n) (sym (drop-map (λ x. x.room) c all)) ∙ p.rest) two.1)
 
 -- a write to one of a chain's cells that leaves its link as it is
 module _ (chain : Chain) (k place : ℕ) (there : place ≡ after k chain.cells.now chain.first) (k_below : k < capacity_of chain) where
@@ -135,7 +135,7 @@ module _ (chain : Chain) (codeblocks : ℕ) (is_open : chain.unfinished ≡ Some
             within = omega (arith, long, room);
             each_once = once_later chain (used + codeblocks) chain.first_free free_after room cell refl;
             whole = ap (λ l. parted chain.waiting (rooms l)) same_used ∙ chain.chained.whole;
-            ends = ap (ended chain.waiting) same_used ∙ chain.chained.ends;
+            ends = ap (last_cells_noted chain.waiting) same_used ∙ chain.chained.ends;
             opens = chain.chained.opens ∙ sym (same_after used);
             frees =
                 ap (λ p. (cell_at cells p).next) free_after ∙ sym (after_more cells (used + codeblocks) first)
@@ -236,12 +236,12 @@ module _ (chain : Chain) (codeblocks : ℕ) (is_open : chain.unfinished ≡ Some
     first_noted : first_count (rooms open_nodes) ≡ codeblocks
     first_noted = ap (λ l. first_count (rooms l)) (begun codeblocks some held_within)
 
-    ends_noted : (get_or open_nodes 0 nowhere).last ≡ place_in open_nodes (first_count (rooms open_nodes) - 1)
+    ends_noted : (get_or open_nodes 0 no_node).last ≡ place_in open_nodes (first_count (rooms open_nodes) - 1)
     ends_noted =
         let on : used + (codeblocks - 1) ≡ used + codeblocks - 1 = omega arith in
-        ap (λ l. (get_or l 0 nowhere).last) (begun codeblocks some held_within) ∙ last_after
+        ap (λ l. (get_or l 0 no_node).last) (begun codeblocks some held_within) ∙ last_after
         ∙ sym (ap (λ n. place_in open_nodes (n - 1)) first_noted
-        ∙ ap (λ node. node.place) (get_nodes counted codeblocks (codeblocks - 1) chain.first_open nowhere (omega arith))
+        ∙ ap (λ node. node.place) (get_nodes counted codeblocks (codeblocks - 1) chain.first_open no_node (omega arith))
         ∙ counted_after (codeblocks - 1) chain.first_open ∙ ap (after (codeblocks - 1) cells) chain.chained.opens
         ∙ sym (after_sum cells used (codeblocks - 1) first) ∙ ap (λ n. after n cells first) on)
 
@@ -269,7 +269,7 @@ module _ (chain : Chain) (codeblocks : ℕ) (is_open : chain.unfinished ≡ Some
           each_once = once_later chain used chain.first_open chain.chained.opens open_below noted_cell refl;
           whole = ap₂ parted (add-one chain.waiting) all_rooms ∙ one_more.whole;
           ends =
-              ap₂ ended (add-one chain.waiting) all_nodes
+              ap₂ last_cells_noted (add-one chain.waiting) all_nodes
               ∙ ended_behind open_nodes (omega (arith, first_noted)) ends_noted chain.waiting (nodes used cells first) chain.chained.whole chain.chained.ends;
           opens = free;
           frees = free ∙ ap (λ n. after n counted first) no_more;

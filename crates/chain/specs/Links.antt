@@ -41,19 +41,20 @@ times place (node ∷ list) = cond (node.place == place) 1 0 + times place list
 abbrev pub EachOnce : ℕ → List Node → Type 0
 EachOnce count list = (place : ℕ) → times place list ≡ cond (nat_lt place count) 1 0
 
--- the place of a cell of a list
-abbrev pub nowhere : Node
-nowhere = record { place = 0; room = record { octets = []; codeblocks = 0 }; last = 0 }
+-- stands past the end of a list
+abbrev pub no_node : Node
+no_node = record { place = 0; room = record { octets = []; codeblocks = 0 }; last = 0 }
 
+-- the place of a cell of a list
 abbrev pub place_in : List Node → ℕ → ℕ
-place_in list k = (slice_index_or list k nowhere).place
+place_in list k = (slice_index_or list k no_node).place
 
 -- the first cell of each of so many candidates has the place of the candidate's last one
-abbrev pub ended : ℕ → List Node → Bool
-ended zero list = true
-ended (suc n) list =
+abbrev pub last_cells_noted : ℕ → List Node → Bool
+last_cells_noted zero list = true
+last_cells_noted (suc n) list =
     let count : ℕ = first_count (rooms list) in
-    (slice_index_or list 0 nowhere).last == place_in list (count - 1) && ended n (drop count list)
+    (slice_index_or list 0 no_node).last == place_in list (count - 1) && last_cells_noted n (drop count list)
 
 -- each cell links to the one that lies behind it
 unfoldable pub LinkInTurn : List Cell → Type 0
@@ -87,7 +88,7 @@ pub record Chained (cells : List Cell) (first first_open first_free last_finishe
   pub each_once : EachOnce (length cells) (nodes (length cells) cells first)
   -- those of the finished candidates come first, then those of the open one, then the free ones
   pub whole : parted waiting (rooms (nodes used cells first)) ≡ true
-  pub ends : ended waiting (nodes used cells first) ≡ true
+  pub ends : last_cells_noted waiting (nodes used cells first) ≡ true
   pub opens : first_open ≡ after used cells first
   pub frees : first_free ≡ after (used + added unfinished) cells first
   pub finishes : 0 < used → last_finished ≡ after (used - 1) cells first

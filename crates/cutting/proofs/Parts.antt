@@ -6,7 +6,7 @@ use Rattle.std.specs.Option.{option_map}
 use Rattle.std.proofs.lemmas.Bool.{and_parts, eqb-true, leb-true}
 use Rattle.std.proofs.lemmas.List.{length-take-le, length-drop, take_all, take-take, drop-drop}
 use Rattle.std.proofs.lemmas.Option.{none-some}
-use Rattle.cutting.specs.Cutting.{bits, version, told_octets, is_fill, is_frame_in_front, frame, fill, Part, part, frame_part, part_in_front, cut_behind, cut_from}
+use Rattle.cutting.specs.Cutting.{bits, version, length_by_header, is_fill, is_frame_in_front, frame, fill, Part, part, frame_part, part_in_front, cut_behind, cut_from}
 use Rattle.cutting.specs.declared.Item.{Item}
 use Rattle.cutting.specs.declared.cutter.Cutter.{Cutter}
 use Rattle.cutting.specs.Items.{part_of, rest_to_come, ComesNext}
@@ -51,14 +51,14 @@ module _ (place : ℕ) (left : List ℕ) (some : 0 < length left) where
   header_within : (count : ℕ) → 5 ≤ count → take 5 (take count left) ≡ take 5 left
   header_within count h = take-take 5 count left h
 
-  frame_stands : is_frame_in_front left ≡ true → StandsInFront place left (part frame place (take (told_octets left) left))
+  frame_stands : is_frame_in_front left ≡ true → StandsInFront place left (part frame place (take (length_by_header left) left))
   frame_stands e =
       let tests = and_parts _ _ e in
       let bounds = and_parts _ _ tests.1 in
-      let least : 5 ≤ told_octets left = leb-true 5 (told_octets left) bounds.0 in
-      let most : told_octets left ≤ length left = leb-true (told_octets left) (length left) bounds.1 in
-      let long : length (take (told_octets left) left) ≡ told_octets left = length-take-le (told_octets left) left most in
-      let same : take 5 (take (told_octets left) left) ≡ take 5 left = header_within (told_octets left) least in
+      let least : 5 ≤ length_by_header left = leb-true 5 (length_by_header left) bounds.0 in
+      let most : length_by_header left ≤ length left = leb-true (length_by_header left) (length left) bounds.1 in
+      let long : length (take (length_by_header left) left) ≡ length_by_header left = length-take-le (length_by_header left) left most in
+      let same : take 5 (take (length_by_header left) left) ≡ take 5 left = header_within (length_by_header left) least in
       record {
         at = refl;
         some = omega arith;
@@ -73,7 +73,7 @@ module _ (place : ℕ) (left : List ℕ) (some : 0 < length left) where
       }
 
   by_kind : (p : Part) (is_f is_fr : Bool) → is_fill left ≡ is_f → is_frame_in_front left ≡ is_fr →
-      cond is_f (Some (part fill place left)) (frame_part place left (cond is_fr (Some (told_octets left)) None)) ≡ Some p → StandsInFront place left p
+      cond is_f (Some (part fill place left)) (frame_part place left (cond is_fr (Some (length_by_header left)) None)) ≡ Some p → StandsInFront place left p
   by_kind p true is_fr f fr e = subst (StandsInFront place left) (some_same e) (fill_stands f)
   by_kind p false true f fr e = subst (StandsInFront place left) (some_same e) (frame_stands fr)
   by_kind p false false f fr e = absurd (none-some p e)

@@ -1,12 +1,13 @@
 -- What is cut of frames that were sent. Assumes nothing.
-use Rattle.std.proofs.Common.{◌≡◌, ℕ, zero, suc, ◌+◌, ◌<◌, ◌≤◌, Bool, true, false, cond, List, [], ◌∷◌, ◌++◌, length, take, replicate, Some, None, ◌==◌, nat_le, sym, refl, ap, ◌∙◌, ap₂, zero-add, add_assoc, append_assoc, arith}
+use Rattle.std.proofs.Common.{◌≡◌, ℕ, zero, suc, ◌+◌, ◌<◌, ◌≤◌, Bool, true, false, cond, List, [], ◌∷◌, ◌++◌, length, take, drop, replicate, Some, None, ◌==◌, nat_le, sym, refl, ap, ◌∙◌, ap₂, zero-add, add_assoc, append_assoc, arith}
 use Rattle.std.specs.Int.Digits.{number_from_digits}
 use Rattle.std.specs.List.{list_all, AllByRecursion}
 use Rattle.std.proofs.lemmas.Bool.{and_parts, and_from, le-leb, eq-eqb}
-use Rattle.std.proofs.lemmas.List.{length-append, length-replicate, take_at, drop_at, drop_all, take-append-le}
+use Rattle.std.proofs.lemmas.List.{length-append, length-replicate, take_at, drop_at, drop_all, take-append-le, take-append-drop}
+use Rattle.std.proofs.lemmas.Option.{none-some}
 use Rattle.cltu.specs.Cltu.{fill_for}
-use Rattle.cutting.specs.Cutting.{bits, version, told_octets, is_fill, is_frame_in_front, frame_part, frame, fill, Part, part, part_in_front, Cutting, cut_from}
-use Rattle.cutting.specs.Laws.{IsFrame, frames_from, fill_from, end_to_end, SentComesBack}
+use Rattle.cutting.specs.Cutting.{bits, version, length_by_header, is_fill, is_frame_in_front, frame_part, frame, fill, Part, part, part_in_front, Cutting, cut_from}
+use Rattle.cutting.specs.Laws.{IsFrame, IsFill, Neither, frames_from, fill_from, end_to_end, SentComesBack}
 use Rattle.cutting.proofs.Parts.{each_is_55, cut_behind_part}
 
 -- octets that begin with five octets 55 have a header of version 01
@@ -29,7 +30,7 @@ module _ (place : ℕ) (octets more : List ℕ) (is : IsFrame octets) where
   version_same : version all ≡ 0
   version_same = ap (λ five. bits 0 1 (number_from_digits 256 five)) same_header ∙ is.version_00
 
-  told_same : told_octets all ≡ length octets
+  told_same : length_by_header all ≡ length octets
   told_same = ap (λ five. bits 22 31 (number_from_digits 256 five) + 1) same_header ∙ is.told
 
   longer : length all ≡ length octets + length more
@@ -45,12 +46,33 @@ module _ (place : ℕ) (octets more : List ℕ) (is : IsFrame octets) where
   frame_there : is_frame_in_front all ≡ true
   frame_there =
       and_from _ _ (eq-eqb (version all) 0 version_same)
-      (and_from _ _ (le-leb 5 (told_octets all) (omega (arith, told_same, is.least))) (le-leb (told_octets all) (length all) (omega (arith, told_same, longer))))
+      (and_from _ _ (le-leb 5 (length_by_header all) (omega (arith, told_same, is.least))) (le-leb (length_by_header all) (length all) (omega (arith, told_same, longer))))
 
   pub frame_in_front : part_in_front place all ≡ Some (part frame place octets)
   frame_in_front =
-      ap₂ (λ f t. cond f (Some (part fill place all)) (frame_part place all (cond t (Some (told_octets all)) None))) (not_fill (is_fill all) refl) frame_there
+      ap₂ (λ f t. cond f (Some (part fill place all)) (frame_part place all (cond t (Some (length_by_header all)) None))) (not_fill (is_fill all) refl) frame_there
       ∙ ap (λ n. Some (part frame place (take n all))) told_same ∙ ap (λ o. Some (part frame place o)) (take_at octets more (length octets) refl)
+
+-- octets 55 pass the test of each octet
+all_55 : (xs : List ℕ) → AllByRecursion (λ x. x ≡ 0x55) xs → list_all (λ x. x == 0x55) xs ≡ true
+all_55 [] all = refl
+all_55 (x ∷ xs) all = and_from (x == 0x55) _ (eq-eqb x 0x55 all.0) (all_55 xs all.1)
+
+-- fill in front is a part
+fill_in_front : (place : ℕ) (octets : List ℕ) → IsFill octets → part_in_front place octets ≡ Some (part fill place octets)
+fill_in_front place octets is =
+    let test : is_fill octets ≡ true = and_from _ _ (le-leb (length octets) 6 is.most) (all_55 octets is.each) in
+    ap (λ t. cond t (Some (part fill place octets)) (frame_part place octets (cond (is_frame_in_front octets) (Some (length_by_header octets)) None))) test
+
+-- octets that begin with no part by the tests begin with neither
+pub neither : (place : ℕ) (octets : List ℕ) → part_in_front place octets ≡ None → Neither octets
+neither place octets none =
+    record {
+      no_fill = λ is. none-some (part fill place octets) (sym none ∙ fill_in_front place octets is);
+      no_frame = λ count is.
+          none-some (part frame place (take count octets))
+          (sym none ∙ ap (part_in_front place) (sym (take-append-drop count octets)) ∙ frame_in_front place (take count octets) (drop count octets) is);
+    }
 
 -- what is put before a cutting
 abbrev before : List Part → Cutting → Cutting
@@ -70,10 +92,10 @@ cut_frames place (octets ∷ frames) more all =
     ∙ ap (before (first ∷ [])) (cut_frames (place + length octets) frames more all.1)
     ∙ ap (λ n. before (frames_from place (octets ∷ frames)) (cut_from n 0 more)) (add_assoc place (length octets) (length (end_to_end frames)) ∙ ap (λ n. place + n) (sym (length-append octets (end_to_end frames))))
 
--- fill passes the test of each octet
-each_55 : (n : ℕ) → list_all (λ x. x == 0x55) (replicate n 0x55) ≡ true
-each_55 zero = refl
-each_55 (suc n) = each_55 n
+-- each octet of repeated octets 55 is 55
+each_55 : (n : ℕ) → AllByRecursion {X = ℕ} (λ x. x ≡ 0x55) (replicate n 0x55)
+each_55 zero = tt
+each_55 (suc n) = (refl, each_55 n)
 
 -- fill alone is cut as fill, or as nothing
 cut_fill : (place n : ℕ) → n ≤ 6 → cut_from place 0 (replicate n 0x55) ≡ record { parts = fill_from place (replicate n 0x55); refused_at = None }
@@ -81,8 +103,7 @@ cut_fill place zero h = refl
 cut_fill place (suc n) h =
     let octets = replicate (suc n) 0x55 in
     let size : length octets ≡ suc n = length-replicate (suc n) 0x55 in
-    let is : is_fill octets ≡ true = and_from _ _ (le-leb (length octets) 6 (omega (arith, size))) (each_55 (suc n)) in
-    let front : part_in_front place octets ≡ Some (part fill place octets) = ap (λ t. cond t (Some (part fill place octets)) (frame_part place octets (cond (is_frame_in_front octets) (Some (told_octets octets)) None))) is in
+    let front = fill_in_front place octets (record { some = omega (arith, size); most = omega (arith, size); each = each_55 (suc n) }) in
     cut_behind_part place octets (part fill place octets) (omega (arith, size)) front (omega (arith, size))
     ∙ ap (λ l. before (part fill place octets ∷ []) (cut_from (place + length octets) 0 l)) (drop_all (length octets) octets (omega arith))
 

@@ -5,6 +5,7 @@ use Rattle.std.proofs.Math.Seq.{take-add}
 use Rattle.std.proofs.lemmas.Option.{none-some}
 use Rattle.cutting.specs.Cutting.{Part, part_in_front, Cutting, cut_from}
 use Rattle.cutting.specs.Laws.{EachOfItsKind, EndToEnd, NothingBehindFill, put_together, CutWhole, CutTillRefused}
+use Rattle.cutting.proofs.Sent.{neither}
 use Rattle.cutting.proofs.Parts.{some_same, StandsInFront, part_stands, cut_behind_part, cut_refused}
 
 -- a cutting of octets left at a place, whose parts have so many of them
@@ -115,5 +116,5 @@ cut_till_refused candidate place e =
         together = made.together ∙ ap (λ n. take n candidate) there;
       };
       left = omega (arith, known.1);
-      neither = ap (λ n. part_in_front place (drop n candidate)) (sym there) ∙ known.2;
+      neither = neither place (drop place candidate) (ap (λ n. part_in_front place (drop n candidate)) (sym there) ∙ known.2);
     }

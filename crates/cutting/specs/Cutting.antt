@@ -15,8 +15,8 @@ abbrev pub version : List ℕ → ℕ
 version octets = bits 0 1 (header octets)
 
 -- how many octets a frame has by its header, which tells one less
-abbrev pub told_octets : List ℕ → ℕ
-told_octets octets = bits 22 31 (header octets) + 1
+abbrev pub length_by_header : List ℕ → ℕ
+length_by_header octets = bits 22 31 (header octets) + 1
 
 -- octets that are left of a candidate are fill: at most six, all 55
 abbrev pub is_fill : List ℕ → Bool
@@ -24,11 +24,11 @@ is_fill left = nat_le (length left) 6 && list_all (λ x. x == 0x55) left
 
 -- they begin with a frame: of version 00, and with as many octets as its header tells, five at least
 abbrev pub is_frame_in_front : List ℕ → Bool
-is_frame_in_front left = version left == 0 && (nat_le 5 (told_octets left) && nat_le (told_octets left) (length left))
+is_frame_in_front left = version left == 0 && (nat_le 5 (length_by_header left) && nat_le (length_by_header left) (length left))
 
 -- of how many octets that frame is
 abbrev pub frame_octets : List ℕ → Option ℕ
-frame_octets left = cond (is_frame_in_front left) (Some (told_octets left)) None
+frame_octets left = cond (is_frame_in_front left) (Some (length_by_header left)) None
 
 pub data Kind : Type 0 where
   frame : Kind

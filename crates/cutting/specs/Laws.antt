@@ -2,13 +2,13 @@
 use Rattle.std.specs.Prelude.{◌≡◌, ℕ, ◌+◌, ◌<◌, ◌≤◌, List, [], ◌∷◌, ◌++◌, length, take, drop, replicate, Some, None}
 use Rattle.std.specs.List.{flat_map, AllByRecursion}
 use Rattle.cltu.specs.Cltu.{fill_for, filled}
-use Rattle.cutting.specs.Cutting.{version, told_octets, Kind, frame, fill, Part, part, part_in_front, cutting}
+use Rattle.cutting.specs.Cutting.{version, length_by_header, Kind, frame, fill, Part, part, cutting}
 
 -- octets are a frame: of version 00, and as many as the header tells, five at least
 pub record IsFrame (octets : List ℕ) : Type 0 where
   pub version_00 : version octets ≡ 0
   pub least : 5 ≤ length octets
-  pub told : told_octets octets ≡ length octets
+  pub told : length_by_header octets ≡ length octets
 
 -- octets are fill: one to six, each 55
 pub record IsFill (octets : List ℕ) : Type 0 where
@@ -48,11 +48,16 @@ pub record MakeUp (octets : List ℕ) (parts : List Part) : Type 0 where
 abbrev pub CutWhole : Type 0
 CutWhole = (candidate : List ℕ) → (cutting candidate).refused_at ≡ None → MakeUp candidate (cutting candidate).parts
 
+-- octets begin with no part: they are no fill, and no frame is in front of them
+pub record Neither (octets : List ℕ) : Type 0 where
+  pub no_fill : IsFill octets → ⊥
+  pub no_frame : (count : ℕ) → IsFrame (take count octets) → ⊥
+
 -- where cutting is refused, the parts make up what is before that place, and something is left there that begins with no part
 pub record MakeUpTill (place : ℕ) (candidate : List ℕ) (parts : List Part) : Type 0 where
   pub before : MakeUp (take place candidate) parts
   pub left : place < length candidate
-  pub neither : part_in_front place (drop place candidate) ≡ None
+  pub neither : Neither (drop place candidate)
 
 abbrev pub CutTillRefused : Type 0
 CutTillRefused = (candidate : List ℕ) (place : ℕ) → (cutting candidate).refused_at ≡ Some place → MakeUpTill place candidate (cutting candidate).parts

@@ -360,7 +360,8 @@ fn run_matching(heap: Global, setup: Setup, frames: &[u8]) -> Result<Counts> {
     }
 }
 
-fn told(setup: Setup) -> (u8, &'static str, &'static str, &'static str) {
+/// A setup in words: the number of its procedure, its randomizer, its idle octet and its mode.
+fn setup_words(setup: Setup) -> (u8, &'static str, &'static str, &'static str) {
     (
         setup.plop as u8,
         match setup.randomizer {
@@ -378,13 +379,36 @@ fn told(setup: Setup) -> (u8, &'static str, &'static str, &'static str) {
     )
 }
 
-fn main(rt: HostRuntime) -> anyhow::Result<()> {
-    let heap = rt.alloc();
+/// Runs a setup, prints its line, and tells how many differences there were.
+fn report(rt: &(impl Print + AllocGlobal), setup: Setup, frames: &[u8]) -> Result<u64> {
+    let Counts {
+        stretches,
+        octets,
+        sent,
+        back,
+        refused,
+        differences,
+    } = run_matching(rt.alloc(), setup, frames)?;
+    let (plop, random, idle, mode) = setup_words(setup);
+    let limit = setup.limit;
+    println!(rt;
+        "PLOP-{plop}, randomizer {random}, idle {idle}, {mode}, L {limit}: {stretches} stretches, {octets} octets, {sent} frames sent, {back} back, {refused} calls refused"
+    )?;
+    Ok(differences)
+}
+
+/// Octets in which no pattern is easily seen.
+fn frame_memory(heap: Global) -> Result<Vec<u8>, AllocError> {
     let mut numbers = Numbers(1);
     let mut frames = Vec::new(heap);
     for _ in 0..FRAME_MEMORY {
         frames.push((numbers.next() & 0xff) as u8)?;
     }
+    Ok(frames)
+}
+
+fn main(rt: HostRuntime) -> anyhow::Result<()> {
+    let frames = frame_memory(rt.alloc())?;
     let mut differences: u64 = 0;
     for plop in [Plop::One, Plop::Two] {
         for randomizer in [Randomizer::Off, Randomizer::On] {
@@ -397,20 +421,8 @@ fn main(rt: HostRuntime) -> anyhow::Result<()> {
                         limit,
                         mode,
                     };
-                    let counts = run_matching(heap, setup, frames.as_slice())?;
-                    let (plop, random, idle, mode) = told(setup);
-                    let Counts {
-                        stretches,
-                        octets,
-                        sent,
-                        back,
-                        refused,
-                        ..
-                    } = counts;
-                    println!(rt;
-                        "PLOP-{plop}, randomizer {random}, idle {idle}, {mode}, L {limit}: {stretches} stretches, {octets} octets, {sent} frames sent, {back} back, {refused} calls refused"
-                    )?;
-                    differences = differences.saturating_add(counts.differences);
+                    let more = report(&rt, setup, frames.as_slice())?;
+                    differences = differences.saturating_add(more);
                 }
             }
         }
