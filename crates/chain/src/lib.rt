@@ -1,5 +1,5 @@
-//! A hold of candidates in lent cells that link to one another: no allocation, freed cells are used
-//! again, and constant time for each call but the making and a read.
+//! A hold of candidates in lent cells that link to one another: no allocation, any free cell serves, and
+//! constant time for each call but the making and a read.
 #![tactic(auto)]
 
 ghost use Rattle.std.specs.Prelude.{◌≡◌, ℕ, ◌+◌, ◌-◌, ◌*◌, ◌/◌, ◌<◌, ◌≤◌, ◌==◌, cond, min, [], length, Some as present, None as absent, Ok, MatchResult, slice_index};

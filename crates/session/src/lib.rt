@@ -1,5 +1,5 @@
-//! The sending session of a ground station: carrier, acquisition, idle and CLTUs in the order that the physical
-//! layer operations procedures allow. Each state is a type of its own, so that a wrong order does not compile.
+//! The sending session of a ground station. Its states are types, and its calls lead from one to another: what the
+//! physical layer operations procedures do not allow does not compile.
 #![tactic(auto)]
 
 ghost use Rattle.std.specs.Prelude.{◌≡◌, [], ◌∷◌, length, take, MatchResult, IfOk};
