@@ -2,12 +2,13 @@
 #![tactic(auto)]
 
 ghost use Rattle.std.specs.Prelude.{◌≡◌};
-ghost use Rattle.line_end.specs.Text.{without_line_end};
+ghost use Rattle.line_end.specs.Text.{without_line_end, JustTheEndIsTakenOff};
 
 /// A line without its end: a newline, or a carriage return and a newline. A line that has neither stays
 /// as it is.
 pub fn without_line_end(line: &[u8]) -> &[u8]
-    ensures { result.now ≡ without_line_end line.now }
+    ensures text { result.now ≡ without_line_end line.now }
+    ensures law { JustTheEndIsTakenOff }
 {
     match line {
         [text @ .., b'\r', b'\n'] => text,
