@@ -1,2 +1,3 @@
 -- Laws of holds. Assumes nothing.
 pub mod Copies
+pub mod Plain

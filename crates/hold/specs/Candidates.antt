@@ -60,7 +60,6 @@ FinishedWhole (candidate ∷ rest) = Whole candidate × (0 < length candidate) �
 
 pub record Sound (capacity : ℕ) (finished : List Candidate) (opened : Option Candidate) : Type 0 where
   pub within : finished_codeblocks finished + open_codeblocks opened ≤ capacity
-  pub most : capacity ≤ 65535
   pub finished_whole : FinishedWhole finished
   pub open_whole : OpenWhole opened
 

@@ -75,11 +75,6 @@ pub trait Hold {
     fn oldest_length(&self) -> Result<usize, Refusal>
         ensures { result ≡ oldest_length (finished self.now) };
 
-    /// The octet at a place of the oldest finished candidate. Refused with 7 where none waits, and with 8
-    /// at or past its end.
-    fn oldest_octet(&self, place: usize) -> Result<u8, Refusal>
-        ensures { result ≡ oldest_octet (finished self.now) place };
-
     /// Reads a stretch of the oldest finished candidate, from a place on, into memory that is as long.
     /// Refused with 7 where none waits, and with 8 where an octet at or past its end is asked for;
     /// then the memory is as it was.
@@ -87,70 +82,21 @@ pub trait Hold {
         ensures answer { result ≡ stretch_answer (finished self.now) place memory.old }
         ensures memory { memory.new ≡ after_stretch (finished self.now) place memory.old };
 
+    /// The octet at a place of the oldest finished candidate. Refused with 7 where none waits, and with 8
+    /// at or past its end. It is a stretch of one octet, so a kind of hold need not tell it once more.
+    fn oldest_octet(&self, place: usize) -> Result<u8, Refusal>
+        ensures { result ≡ oldest_octet (finished self.now) place }
+    {
+        let mut memory = [0];
+        self.read_oldest(place, &mut memory)?;
+        Ok(memory[0])
+    }
+
     /// The showing sends octets to octets, and no two of them to one.
     ghost apart: { ShowsApart showing };
 
     /// What is held is whole candidates within the capacity.
     ghost sound: { (hold : Self) → Sound (capacity hold) (finished hold) (opened hold) };
-}
-
-/// A hold that is lent is a hold: a layer or a receiver may own it or borrow it.
-impl<'h, H: Hold> Hold for &'h mut H {
-    ghost capacity = { λ lent. H.Hold.capacity lent.now };
-
-    ghost finished = { λ lent. H.Hold.finished lent.now };
-
-    ghost opened = { λ lent. H.Hold.opened lent.now };
-
-    ghost showing = { H.Hold.showing };
-
-    ghost apart = { H.Hold.apart };
-
-    ghost sound = { λ lent. H.Hold.sound lent.now };
-
-    fn open(&mut self) -> Result<(), Refusal> {
-        (**self).open()
-    }
-
-    fn add(&mut self, octets: [u8; 7]) -> Result<(), Refusal> {
-        (**self).add(octets)
-    }
-
-    fn finish(&mut self) -> Result<(), Refusal> {
-        (**self).finish()
-    }
-
-    fn abandon(&mut self) -> Result<(), Refusal> {
-        (**self).abandon()
-    }
-
-    fn release(&mut self) -> Result<(), Refusal> {
-        (**self).release()
-    }
-
-    fn free_space(&self) -> usize {
-        (**self).free_space()
-    }
-
-    fn open_codeblocks(&self) -> usize {
-        (**self).open_codeblocks()
-    }
-
-    fn finished_count(&self) -> usize {
-        (**self).finished_count()
-    }
-
-    fn oldest_length(&self) -> Result<usize, Refusal> {
-        (**self).oldest_length()
-    }
-
-    fn oldest_octet(&self, place: usize) -> Result<u8, Refusal> {
-        (**self).oldest_octet(place)
-    }
-
-    fn read_oldest(&self, place: usize, memory: &mut [u8]) -> Result<(), Refusal> {
-        (**self).read_oldest(place, memory)
-    }
 }
 
 /// Copies the oldest finished candidate to the front of the memory and answers how many octets it
