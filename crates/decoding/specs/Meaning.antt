@@ -4,7 +4,7 @@ use Rattle.bch.specs.declared.Mode.{Mode}
 use Rattle.refusals.specs.declared.Refusal.{Refusal}
 use Rattle.cltu.specs.Limit.{limit_answer}
 use Rattle.hold.specs.declared.Hold.{Ghosts}
-use Rattle.reception.specs.Rules.{Settings, settings, Held}
+use Rattle.reception.specs.Decoding.{Settings, settings, Held}
 use Rattle.decoding.specs.declared.Settings.{Settings as Set}
 
 -- the settings of the rules

@@ -3,7 +3,8 @@ use Rattle.std.specs.Prelude.{ℕ, min}
 use Rattle.std.specs.declared.ops.ControlFlow.{ControlFlow}
 use Rattle.std.specs.declared.ops.ControlFlow.TheVariants.{Continue, Break}
 use Rattle.reception.specs.declared.Report.{Report}
-use Rattle.reception.specs.Rules.{Held, Decoded, goes_on, ends, Phase, INACTIVE, SEARCH, DECODE, state, Outcome, quietly, reporting, searching}
+use Rattle.reception.specs.Decoding.{Held, Decoded, goes_on, ends}
+use Rattle.reception.specs.Rules.{Phase, INACTIVE, SEARCH, DECODE, state, Outcome, quietly, reporting, searching}
 use Rattle.decoding.specs.declared.progress.Decoding.{Decoding}
 
 abbrev pub phase_in : Decoding → Phase

@@ -3,7 +3,9 @@
 #![tactic(auto)]
 
 ghost use Rattle.std.specs.Prelude.{◌≡◌, ◌+◌, ◌*◌};
-ghost use Rattle.reception.specs.Rules.{bit_value, opening, abandoning, added, report, ends, closing, counting_in, decoded, DECODE, at_symbol};
+ghost use Rattle.reception.specs.Symbols.{bit_value};
+ghost use Rattle.reception.specs.Decoding.{opening, abandoning, added, report, ends, closing, counting_in, decoded};
+ghost use Rattle.reception.specs.Rules.{DECODE, at_symbol};
 ghost use Rattle.reception.specs.declared.Reason.TheVariants.{Down as down};
 ghost use Rattle.decoding.specs.Meaning.{rules_of, made_settings, settings_answer, held_in};
 ghost use Rattle.decoding.specs.Outcomes.{phase_in, decoded_as, outcome_as, told_decoded, told_outcome};

@@ -10,7 +10,10 @@ use Rattle.hold.specs.Candidates.{Showing}
 use Rattle.queue.specs.declared.slots.Queue.{Queue}
 use Rattle.queue.specs.Waiting.{waiting, capacity, Taken, RefusedEmpty}
 use Rattle.reception.specs.declared.Report.{Report}
-use Rattle.reception.specs.Rules.{Settings, Held, Decoded, goes_on, ends, decoded, Phase, INACTIVE, SEARCH, DECODE, Event, carrier_up, carrier_down, symbol, release, next_count, next_window, bit_value, is_start, at_window, at_codeblock, at_word, at_event}
+use Rattle.reception.specs.Symbols.{bit_value}
+use Rattle.reception.specs.Searching.{next_count, next_window, is_start}
+use Rattle.reception.specs.Decoding.{Settings, Held, Decoded, goes_on, ends, decoded}
+use Rattle.reception.specs.Rules.{Phase, INACTIVE, SEARCH, DECODE, Event, carrier_up, carrier_down, symbol, release, at_window, at_codeblock, at_word, at_event}
 use Rattle.reception.specs.Runs.{after_events, reports_of}
 use Rattle.reception.specs.Calls.{Call, call_up, symbol_events, events_in}
 use Rattle.decoding.specs.Meaning.{rules_of}

@@ -4,7 +4,8 @@ use Rattle.std.specs.List.{flat_map}
 use Rattle.bch.specs.declared.Mode.TheVariants.{Correcting}
 use Rattle.ring.specs.Cells.{plain_showing}
 use Rattle.hold.specs.Candidates.{Showing}
-use Rattle.reception.specs.Rules.{Settings, settings, Held, made, Event, carrier_up, carrier_down}
+use Rattle.reception.specs.Decoding.{Settings, settings, Held}
+use Rattle.reception.specs.Rules.{made, Event, carrier_up, carrier_down}
 use Rattle.reception.specs.Calls.{symbol_events}
 use Rattle.pass_record.specs.Record.{IsRecord}
 use Rattle.pass_lines.specs.Lines.{end_line}

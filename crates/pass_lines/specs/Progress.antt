@@ -3,7 +3,8 @@ use Rattle.std.specs.Prelude.{◌≡◌, ℕ, cond, List, [], ◌∷◌, ◌++�
 use Rattle.hold.specs.declared.Hold.{Ghosts}
 use Rattle.hold.specs.Candidates.{Showing}
 use Rattle.reception.specs.declared.Report.{Report}
-use Rattle.reception.specs.Rules.{Settings, State, state, releasing, Event, Outcome, at_event}
+use Rattle.reception.specs.Decoding.{Settings, releasing}
+use Rattle.reception.specs.Rules.{State, state, Event, Outcome, at_event}
 use Rattle.reception.specs.Counting.{counted}
 use Rattle.decoding.specs.Meaning.{rules_of}
 use Rattle.receiver.specs.Meaning.{state_of}

@@ -8,7 +8,8 @@ use Rattle.randomizer.specs.Sequence.{randomized}
 use Rattle.cltu.specs.Cltu.{codeblocks_for, filled}
 use Rattle.cltu.proofs.Places.{length_sent}
 use Rattle.hold.specs.Candidates.{Candidate, Showing, shown_from, Matches, finished_codeblocks}
-use Rattle.reception.specs.Rules.{Settings, Held, room, Phase, INACTIVE, SEARCH, DECODE, State, state, Event, carrier_up, carrier_down, at_up, made}
+use Rattle.reception.specs.Decoding.{Settings, Held, room}
+use Rattle.reception.specs.Rules.{Phase, INACTIVE, SEARCH, DECODE, State, state, Event, carrier_up, carrier_down, at_up, made}
 use Rattle.reception.specs.Runs.{after_events, symbols_in, CarrierStaysUp, Clear}
 use Rattle.reception.specs.Allowance.{ReceivedCltu, symbols_of, WithinAllowance, undamaged}
 use Rattle.reception.specs.Promise.{IdleOrNothing, CarrierStaysDown, Transmission, events_of, WellSent, announced, new_candidates}

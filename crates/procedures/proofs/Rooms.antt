@@ -4,7 +4,10 @@ use Rattle.bch.specs.declared.Accepted.{Accepted}
 use Rattle.bch.specs.Reception.{verdict}
 use Rattle.hold.specs.Candidates.{Candidate, Showing, finished_codeblocks, open_codeblocks}
 use Rattle.reception.specs.declared.Reason.TheVariants.{Long, Full}
-use Rattle.reception.specs.Rules.{Settings, Held, abandoning, adding, added, room, is_start, next_count, next_window, bit_value, goes_on, ends, report, closing, decoded_by, Phase, INACTIVE, SEARCH, DECODE, State, state, Event, carrier_up, carrier_down, symbol, release, Outcome, at_window, at_codeblock, at_word, at_event}
+use Rattle.reception.specs.Symbols.{bit_value}
+use Rattle.reception.specs.Searching.{is_start, next_count, next_window}
+use Rattle.reception.specs.Decoding.{Settings, Held, abandoning, adding, added, room, goes_on, ends, report, closing, decoded_by}
+use Rattle.reception.specs.Rules.{Phase, INACTIVE, SEARCH, DECODE, State, state, Event, carrier_up, carrier_down, symbol, release, Outcome, at_window, at_codeblock, at_word, at_event}
 use Rattle.reception.specs.Runs.{after_events}
 use Rattle.reception.specs.Promise.{new_candidates, releases_accepted}
 use Rattle.reception.proofs.Finished.{run_keeps}

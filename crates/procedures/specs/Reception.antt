@@ -7,7 +7,8 @@ use Rattle.randomizer.specs.declared.Randomizer.{Randomizer}
 use Rattle.randomizer.specs.Sequence.{randomized}
 use Rattle.cltu.specs.Cltu.{codeblocks_for, filled}
 use Rattle.hold.specs.Candidates.{Showing, shown_from, Matches}
-use Rattle.reception.specs.Rules.{Settings, Held, room, INACTIVE, State, Event, carrier_up, carrier_down, made}
+use Rattle.reception.specs.Decoding.{Settings, Held, room}
+use Rattle.reception.specs.Rules.{INACTIVE, State, Event, carrier_up, carrier_down, made}
 use Rattle.reception.specs.Runs.{after_events, symbols_in, CarrierStaysUp, Clear}
 use Rattle.reception.specs.Allowance.{undamaged, symbols_of}
 use Rattle.reception.specs.Promise.{IdleOrNothing, CarrierStaysDown, Transmission, events_of, new_candidates, releases_accepted}

@@ -2,7 +2,8 @@
 use Rattle.std.proofs.Common.{◌≡◌, ℕ, ◌≤◌, Bool, true, ◌&&◌, is_some, nat_le, Some, None, Option, refl, ap, ◌∙◌, subst, arith}
 use Rattle.std.proofs.lemmas.Bool.{leb-true, le-leb, false≢true}
 use Rattle.hold.specs.Candidates.{Candidate, Showing}
-use Rattle.reception.specs.Rules.{Settings, Held, added, Phase, INACTIVE, SEARCH, DECODE, state, Outcome, at_symbol}
+use Rattle.reception.specs.Decoding.{Settings, Held, added}
+use Rattle.reception.specs.Rules.{Phase, INACTIVE, SEARCH, DECODE, state, Outcome, at_symbol}
 use Rattle.reception.proofs.Decoding.{IsOpen}
 use Rattle.reception.proofs.Among.{Among, symbol_among}
 use Rattle.std.specs.declared.ops.ControlFlow.{ControlFlow}

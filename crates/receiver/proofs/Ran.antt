@@ -6,7 +6,8 @@ use Rattle.hold.specs.declared.Hold.{Ghosts}
 use Rattle.hold.specs.Candidates.{Showing}
 use Rattle.queue.specs.declared.slots.Queue.{Queue}
 use Rattle.reception.specs.declared.Report.{Report}
-use Rattle.reception.specs.Rules.{Settings, Held, Phase, INACTIVE, SEARCH, DECODE, State, state, Event, at_up, at_event}
+use Rattle.reception.specs.Decoding.{Settings, Held}
+use Rattle.reception.specs.Rules.{Phase, INACTIVE, SEARCH, DECODE, State, state, Event, at_up, at_event}
 use Rattle.reception.specs.Runs.{after_events, reports_of}
 use Rattle.reception.specs.Calls.{Call, symbol_events, events_in, refused_if_down, answered, after_call, after_calls, lost_after}
 use Rattle.reception.proofs.Refused.{symbols_refused}

@@ -2,7 +2,8 @@
 use Rattle.std.specs.Prelude.{◌≡◌, ℕ, List, ◌∷◌}
 use Rattle.hold.specs.declared.Hold.{Ghosts}
 use Rattle.reception.specs.declared.Report.{Report}
-use Rattle.reception.specs.Rules.{Held, Phase, INACTIVE, SEARCH, DECODE}
+use Rattle.reception.specs.Decoding.{Held}
+use Rattle.reception.specs.Rules.{Phase, INACTIVE, SEARCH, DECODE}
 use Rattle.reception.specs.Calls.{Call, call_up, call_down, call_symbols, call_release, after_call, after_calls, reports_in, lost_after}
 use Rattle.receiver.specs.declared.ReceiverState.{ReceiverState}
 use Rattle.receiver.specs.declared.ReceiverState.TheVariants.{Inactive, Search, Decode}
@@ -14,7 +15,7 @@ use Rattle.receiver.specs.Meaning.{state_of}
 abbrev pub named : Phase → ReceiverState
 named INACTIVE = Inactive
 named (SEARCH count window) = Search
-named (DECODE count word corrections) = Decode
+named (DECODE r) = Decode
 
 -- the free slots of the queue that a call brings
 abbrev pub free_in : Call → ℕ

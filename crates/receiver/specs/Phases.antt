@@ -1,6 +1,7 @@
 -- What the phase of a receiver means: a phase of the rules of reception. Assumes nothing.
 use Rattle.std.specs.Prelude.{Bool, true, ◌&&◌, is_some, nat_le}
-use Rattle.reception.specs.Rules.{Phase, INACTIVE, SEARCH, DECODE, Held, added}
+use Rattle.reception.specs.Decoding.{Held, added}
+use Rattle.reception.specs.Rules.{Phase, INACTIVE, SEARCH, DECODE}
 use Rattle.std.specs.declared.ops.ControlFlow.{ControlFlow}
 use Rattle.std.specs.declared.ops.ControlFlow.TheVariants.{Continue, Break}
 use Rattle.reception.specs.declared.Report.{Report}

@@ -3,7 +3,9 @@
 
 ghost use Rattle.std.specs.Prelude.{◌≡◌, true, [], ◌∷◌, length};
 ghost use Rattle.hold.specs.Candidates.{oldest_length, oldest_octet, copy_answer, after_copy};
-ghost use Rattle.reception.specs.Rules.{bit_value, added, room, made, symbol, SEARCH, quietly, at_symbol};
+ghost use Rattle.reception.specs.Symbols.{bit_value};
+ghost use Rattle.reception.specs.Decoding.{added, room};
+ghost use Rattle.reception.specs.Rules.{made, symbol, SEARCH, quietly, at_symbol};
 ghost use Rattle.reception.specs.Calls.{call_up, call_down, symbol_events, call_release, refusal, event_refusal, answered};
 ghost use Rattle.reception.specs.Promise.{ReceiverPromise};
 ghost use Rattle.searching.specs.Symbols.{decisions};

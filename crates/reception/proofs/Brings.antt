@@ -1,8 +1,10 @@
 -- Events that bring symbols, with releases and refused calls among them, and end with the last of these symbols. Assumes nothing.
-use Rattle.std.proofs.Common.{◌≡◌, ℕ, suc, ◌+◌, ◌*◌, ◌≤◌, Bool, true, false, List, [], ◌∷◌, ◌++◌, length, sym, refl, ap, ◌∙◌, append_assoc, append-nil, arith}
+use Rattle.std.proofs.Common.{◌≡◌, ℕ, suc, ◌+◌, ◌*◌, ◌≤◌, Bool, true, false, List, [], ◌∷◌, ◌++◌, length, sym, refl, ap, ◌∙◌, ap₂, append_assoc, append-nil, arith}
 use Rattle.std.proofs.lemmas.Bool.{eq-eqb, ne_eqb}
 use Rattle.hold.specs.Candidates.{Candidate, Showing, finished_codeblocks, after_release}
-use Rattle.reception.specs.Rules.{Settings, Held, releasing, bit_value, decoded, DECODE, State, state, Event, carrier_up, carrier_down, symbol, release, at_codeblock, at_word, at_event}
+use Rattle.reception.specs.Symbols.{bit_value}
+use Rattle.reception.specs.Decoding.{Settings, Held, releasing, Reading, decoded, with_symbol, read_word}
+use Rattle.reception.specs.Rules.{DECODE, State, state, Event, carrier_up, carrier_down, symbol, release, Outcome, at_decoded, at_event}
 use Rattle.reception.specs.Runs.{after_events, symbols_in, CarrierStaysUp}
 use Rattle.reception.specs.Allowance.{value_from}
 use Rattle.reception.specs.Promise.{announced, new_candidates}
@@ -69,45 +71,62 @@ module _ (settings : Settings) (showing : Showing) where
       ap (λ l. announced s.held.opened (at_event settings showing s e).reports ++ l) (new_append es fs (at_event settings showing s e).after)
       ∙ sym (append_assoc (announced s.held.opened (at_event settings showing s e).reports) (new_candidates settings showing (at_event settings showing s e).after es) (new_candidates settings showing (after_events settings showing s (e ∷ es)) fs))
 
-  -- a codeblock's symbols, from where the word stands
-  pub record WordIn (h : Held) (count word k : ℕ) (xs : List Bool) (es : List Event) : Type 0 where
+  -- a run of events from one state to another, which announces these candidates
+  pub record Goes (s : State) (es : List Event) (t : State) (new : List Candidate) : Type 0 where
+    pub after : after_events settings showing s es ≡ t
+    pub news : new_candidates settings showing s es ≡ new
+
+  -- two runs, one behind the other, of events that are theirs together
+  pub goes_then : {s t u : State} {es fs gs : List Event} {xs ys : List Candidate} → es ≡ fs ++ gs → Goes s fs t xs → Goes t gs u ys → Goes s es u (xs ++ ys)
+  goes_then {s} {t} {u} {es} {fs} {gs} {xs} {ys} whole first second =
+      record {
+        after = ap (after_events settings showing s) whole ∙ after_append fs gs s ∙ ap (λ v. after_events settings showing v gs) first.after ∙ second.after;
+        news = ap (new_candidates settings showing s) whole ∙ new_append fs gs s
+            ∙ ap₂ ◌++◌ first.news (ap (λ v. new_candidates settings showing v gs) first.after ∙ second.news);
+      }
+
+  -- a codeblock's symbols, from where the word stands, in a candidate of n codeblocks with k corrected
+  abbrev at_whole : Held → (n k word : ℕ) → Outcome
+  at_whole h n k word = at_decoded (decoded settings showing h n k word)
+
+  pub record WordIn (h : Held) (r : Reading) (xs : List Bool) (es : List Event) : Type 0 where
     pub hold : Held
     pub released : Released h hold
-    pub after : after_events settings showing (state (DECODE count word k) h) es ≡ (at_codeblock (decoded settings showing hold k (value_from word xs))).after
-    pub new : new_candidates settings showing (state (DECODE count word k) h) es ≡ announced hold.opened (at_codeblock (decoded settings showing hold k (value_from word xs))).reports
+    pub after : after_events settings showing (state (DECODE r) h) es ≡ (at_whole hold r.codeblocks r.corrections (value_from r.word xs)).after
+    pub new : new_candidates settings showing (state (DECODE r) h) es ≡ announced hold.opened (at_whole hold r.codeblocks r.corrections (value_from r.word xs)).reports
 
-  abbrev WholeWord : (h : Held) (count word k : ℕ) (b : Bool) → Bool → Type 0
-  WholeWord h count word k b whole = at_event settings showing (state (DECODE count word k) h) (symbol b) ≡ at_word settings showing h (suc count) (2 * word + bit_value b) k whole
+  abbrev WholeWord : (h : Held) (r : Reading) (b : Bool) → Bool → Type 0
+  WholeWord h r b whole = at_event settings showing (state (DECODE r) h) (symbol b) ≡ at_decoded (read_word settings showing h (with_symbol r b) whole)
 
-  at_last : (h : Held) (count word k : ℕ) (b : Bool) → count + 1 ≡ 64 → WholeWord h count word k b true
-  at_last h count word k b e = ap (at_word settings showing h (suc count) (2 * word + bit_value b) k) (eq-eqb (suc count) 64 (omega arith))
+  at_last : (h : Held) (r : Reading) (b : Bool) → r.count + 1 ≡ 64 → WholeWord h r b true
+  at_last h r b e = ap (λ whole. at_decoded (read_word settings showing h (with_symbol r b) whole)) (eq-eqb (suc r.count) 64 (omega arith))
 
-  not_at_last : (h : Held) (count word k : ℕ) (b : Bool) (n : ℕ) → count + suc (suc n) ≡ 64 → WholeWord h count word k b false
-  not_at_last h count word k b n e = ap (at_word settings showing h (suc count) (2 * word + bit_value b) k) (ne_eqb (suc count) 64 (λ z. omega arith))
+  not_at_last : (h : Held) (r : Reading) (b : Bool) (n : ℕ) → r.count + suc (suc n) ≡ 64 → WholeWord h r b false
+  not_at_last h r b n e = ap (λ whole. at_decoded (read_word settings showing h (with_symbol r b) whole)) (ne_eqb (suc r.count) 64 (λ z. omega arith))
 
-  pub word_comes : (xs : List Bool) (es : List Event) (h : Held) (count word k : ℕ) → Brings xs es → 1 ≤ length xs → count + length xs ≡ 64 → WordIn h count word k xs es
-  word_comes [] es h count word k b some all = absurd (omega arith)
-  word_comes (x ∷ xs) [] h count word k b some all = absurd b
-  word_comes (x ∷ xs) (carrier_up ∷ es) h count word k b some all =
-      let w = word_comes (x ∷ xs) es h count word k b some all in
+  pub word_comes : (xs : List Bool) (es : List Event) (h : Held) (r : Reading) → Brings xs es → 1 ≤ length xs → r.count + length xs ≡ 64 → WordIn h r xs es
+  word_comes [] es h r b some all = absurd (omega arith)
+  word_comes (x ∷ xs) [] h r b some all = absurd b
+  word_comes (x ∷ xs) (carrier_up ∷ es) h r b some all =
+      let w = word_comes (x ∷ xs) es h r b some all in
       record { hold = w.hold; released = w.released; after = w.after; new = w.new }
-  word_comes (x ∷ xs) (carrier_down ∷ es) h count word k b some all = absurd b
-  word_comes (x ∷ xs) (release ∷ es) h count word k b some all =
-      let w = word_comes (x ∷ xs) es (releasing h) count word k b some all in
+  word_comes (x ∷ xs) (carrier_down ∷ es) h r b some all = absurd b
+  word_comes (x ∷ xs) (release ∷ es) h r b some all =
+      let w = word_comes (x ∷ xs) es (releasing h) r b some all in
       record { hold = w.hold; released = released_more w.released; after = w.after; new = w.new }
-  word_comes (x ∷ []) (symbol y ∷ []) h count word k b some all =
-      let o = at_last h count word k y all ∙ ap (λ z. at_codeblock (decoded settings showing h k (2 * word + bit_value z))) b.0 in
+  word_comes (x ∷ []) (symbol y ∷ []) h r b some all =
+      let o = at_last h r y all ∙ ap (λ z. at_whole h r.codeblocks r.corrections (2 * r.word + bit_value z)) b.0 in
       record { hold = h; released = released_none h; after = ap (λ u. u.after) o; new = append-nil _ ∙ ap (λ u. announced h.opened u.reports) o }
-  word_comes (x ∷ []) (symbol y ∷ e ∷ es) h count word k b some all = absurd b.1
-  word_comes (x ∷ z ∷ zs) (symbol y ∷ es) h count word k b some all =
-      let o = not_at_last h count word k y (length zs) all in
-      let w = word_comes (z ∷ zs) es h (suc count) (2 * word + bit_value y) k b.1 (omega arith) (omega arith) in
-      let same = ap (λ v. value_from (2 * word + bit_value v) (z ∷ zs)) b.0 in
+  word_comes (x ∷ []) (symbol y ∷ e ∷ es) h r b some all = absurd b.1
+  word_comes (x ∷ z ∷ zs) (symbol y ∷ es) h r b some all =
+      let o = not_at_last h r y (length zs) all in
+      let w = word_comes (z ∷ zs) es h (with_symbol r y) b.1 (omega arith) (omega arith) in
+      let same = ap (λ v. value_from (2 * r.word + bit_value v) (z ∷ zs)) b.0 in
       record {
         hold = w.hold;
         released = w.released;
-        after = ap (λ u. after_events settings showing u.after es) o ∙ w.after ∙ ap (λ v. (at_codeblock (decoded settings showing w.hold k v)).after) same;
-        new = ap (λ u. announced h.opened u.reports ++ new_candidates settings showing u.after es) o ∙ w.new ∙ ap (λ v. announced w.hold.opened (at_codeblock (decoded settings showing w.hold k v)).reports) same;
+        after = ap (λ u. after_events settings showing u.after es) o ∙ w.after ∙ ap (λ v. (at_whole w.hold r.codeblocks r.corrections v).after) same;
+        new = ap (λ u. announced h.opened u.reports ++ new_candidates settings showing u.after es) o ∙ w.new ∙ ap (λ v. announced w.hold.opened (at_whole w.hold r.codeblocks r.corrections v).reports) same;
       }
 
 pub record Parted (xs ys : List Bool) (es : List Event) : Type 0 where

@@ -1,7 +1,8 @@
 -- A list of calls runs as its events put together. Assumes nothing.
 use Rattle.std.proofs.Common.{[], ◌∷◌, sym, refl, ap, ◌∙◌}
 use Rattle.hold.specs.Candidates.{Showing}
-use Rattle.reception.specs.Rules.{Settings, made}
+use Rattle.reception.specs.Decoding.{Settings}
+use Rattle.reception.specs.Rules.{made}
 use Rattle.reception.specs.Calls.{events_in, events_of_calls, after_call, CallsRunAsTheirEvents}
 use Rattle.reception.proofs.Brings.{after_append}
 

@@ -1,6 +1,6 @@
 -- What a codeblock makes of an open candidate: it ends with none open, or goes on with one codeblock more and within the limit.
 -- Nothing here knows of windows. Assumes nothing.
-use Rattle.std.proofs.Common.{◌≡◌, ℕ, zero, suc, ◌+◌, ◌/◌, ◌<◌, Bool, true, false, cond, eqb, leb, List, [], ◌∷◌, ◌++◌, length, Some, None, Option, sym, refl, ap, ◌∙◌, subst, arith}
+use Rattle.std.proofs.Common.{◌≡◌, ℕ, zero, suc, ◌+◌, ◌/◌, ◌<◌, ◌≤◌, Bool, true, false, cond, eqb, leb, List, [], ◌∷◌, ◌++◌, length, Some, None, Option, sym, refl, ap, ◌∙◌, subst, arith}
 use Rattle.std.proofs.lemmas.List.{length-append}
 use Rattle.std.proofs.lemmas.Bool.{leb-false}
 use Rattle.bch.specs.declared.Mode.{Mode}
@@ -9,7 +9,9 @@ use Rattle.bch.specs.declared.Accepted.{Accepted}
 use Rattle.bch.specs.Reception.{wrong_place, corrected, judged, syndrome, verdict}
 use Rattle.hold.specs.Candidates.{Candidate, Showing, shown_from, open_codeblocks, free_space, open_after_finish}
 use Rattle.reception.specs.declared.Reason.TheVariants.{Long, Full}
-use Rattle.reception.specs.Rules.{Settings, Held, abandoning, adding, added, bit_value, report, Decoded, goes_on, ends, closing, counting_in, decoded_by, decoded}
+use Rattle.reception.specs.declared.Report.{Report}
+use Rattle.reception.specs.Symbols.{bit_value}
+use Rattle.reception.specs.Decoding.{Settings, Held, abandoning, adding, added, Reading, reading, report, Decoded, goes_on, ends, closing, counting_in, decoded_by, decoded}
 
 -- an accepted codeblock has seven octets
 Seven : Option Accepted → Type 0
@@ -39,10 +41,24 @@ IsOpen (Some candidate) = Unit {0}
 abbrev pub held : ℕ → List Candidate → Option Candidate → Held
 held capacity finished opened = record { capacity = capacity; finished = finished; opened = opened }
 
--- with so many codeblocks before
-abbrev pub GoesRight : (limit before : ℕ) → Decoded → Type 0
-GoesRight limit before (ends h one) = h.opened ≡ None
-GoesRight limit before (goes_on h corrections) = IsOpen h.opened × (added h ≡ suc before) × (before < limit)
+-- a candidate that had so many codeblocks, so many of them corrected, and ends
+pub record Ended (codeblocks corrections : ℕ) (h : Held) (one : Report) : Type 0 where
+  pub none_open : h.opened ≡ None
+  pub told : one.codeblocks ≡ codeblocks
+  pub corrected : one.corrections ≡ corrections
+
+-- or goes on, with one more
+pub record WentOn (limit codeblocks corrections : ℕ) (h : Held) (r : Reading) : Type 0 where
+  pub is_open : IsOpen h.opened
+  pub held : added h ≡ suc codeblocks
+  pub counted : r.codeblocks ≡ suc codeblocks
+  pub corrected : r.corrections ≤ suc corrections
+  pub within : codeblocks < limit
+  pub none_read : (r.count ≡ 0) × (r.word ≡ 0)
+
+abbrev pub GoesRight : (limit codeblocks corrections : ℕ) → Decoded → Type 0
+GoesRight limit codeblocks corrections (ends h one) = Ended codeblocks corrections h one
+GoesRight limit codeblocks corrections (goes_on h r) = WentOn limit codeblocks corrections h r
 
 closed : (candidate : Candidate) (n : ℕ) → length candidate / 7 ≡ suc n → open_after_finish (Some candidate) ≡ None
 closed [] n e = absurd (omega arith)
@@ -51,33 +67,52 @@ closed (x ∷ xs) n e = refl
 pub seven_more : (m n : ℕ) → m ≡ n + 7 → m / 7 ≡ suc (n / 7)
 seven_more m n e = omega arith
 
+one_more : (k : ℕ) (c : Bool) → k + bit_value c ≤ suc k
+one_more k true = omega arith
+one_more k false = omega arith
+
 module _ (settings : Settings) (showing : Showing) (K : ℕ) (F : List Candidate) where
-  closing_right : (opened : Option Candidate) (n k : ℕ) → IsOpen opened → open_codeblocks opened ≡ n → GoesRight settings.limit n (closing (held K F opened) n k)
+  closing_right : (opened : Option Candidate) (n k : ℕ) → IsOpen opened → open_codeblocks opened ≡ n →
+      GoesRight settings.limit n k (closing (held K F opened) n k)
   closing_right None n k o e = absurd o
-  closing_right (Some candidate) zero k o e = refl
-  closing_right (Some candidate) (suc n) k o e = closed candidate n e
+  closing_right (Some candidate) zero k o e = record { none_open = refl; told = refl; corrected = refl }
+  closing_right (Some candidate) (suc n) k o e = record { none_open = closed candidate n e; told = refl; corrected = refl }
 
-  counting_right : (candidate : Candidate) (k : ℕ) (octets : List ℕ) (c : Bool) → length octets ≡ 7 →
-      GoesRight settings.limit (length candidate / 7) (counting_in settings showing (held K F (Some candidate)) k octets c)
-  counting_right candidate k octets c seven = by (leb settings.limit (length candidate / 7)) (eqb (free_space K F (Some candidate)) 0) refl refl
+  counting_right : (candidate : Candidate) (n k : ℕ) (octets : List ℕ) (c : Bool) → length candidate / 7 ≡ n → length octets ≡ 7 →
+      GoesRight settings.limit n k (counting_in settings showing (held K F (Some candidate)) n k octets c)
+  counting_right candidate n k octets c e seven = by (leb settings.limit n) (eqb (free_space K F (Some candidate)) 0) refl refl
     where
-      by : (many full : Bool) → leb settings.limit (length candidate / 7) ≡ many → eqb (free_space K F (Some candidate)) 0 ≡ full →
-          GoesRight settings.limit (length candidate / 7)
-          (cond many (ends (abandoning (held K F (Some candidate))) (report Long (length candidate / 7) k)) (cond full (ends (abandoning (held K F (Some candidate))) (report Full (length candidate / 7) k)) (goes_on (adding showing (held K F (Some candidate)) octets) (k + bit_value c))))
-      by true full e f = refl
-      by false true e f = refl
-      by false false e f =
-          let more = length-append candidate (shown_from showing (length candidate) octets) ∙ ap (λ n. length candidate + n) (length_shown_from showing (length candidate) octets ∙ seven) in
-          subst (λ o. IsOpen o × (open_codeblocks o ≡ suc (length candidate / 7)) × (length candidate / 7 < settings.limit))
-          (ap (λ full. cond full (Some candidate) (Some (candidate ++ shown_from showing (length candidate) octets))) (sym f))
-          (tt, seven_more (length (candidate ++ shown_from showing (length candidate) octets)) (length candidate) more, leb-false settings.limit (length candidate / 7) e)
+      by : (many full : Bool) → leb settings.limit n ≡ many → eqb (free_space K F (Some candidate)) 0 ≡ full →
+          GoesRight settings.limit n k
+          (cond many (ends (abandoning (held K F (Some candidate))) (report Long n k))
+          (cond full (ends (abandoning (held K F (Some candidate))) (report Full n k))
+          (goes_on (adding showing (held K F (Some candidate)) octets) (reading 0 0 (suc n) (k + bit_value c)))))
+      by true full m f = record { none_open = refl; told = refl; corrected = refl }
+      by false true m f = record { none_open = refl; told = refl; corrected = refl }
+      by false false m f =
+          let shown = shown_from showing (length candidate) octets in
+          let longer = length-append candidate shown ∙ ap (λ n. length candidate + n) (length_shown_from showing (length candidate) octets ∙ seven) in
+          let after = subst (λ o. IsOpen o × (open_codeblocks o ≡ suc n))
+              (ap (λ full. cond full (Some candidate) (Some (candidate ++ shown))) (sym f))
+              (tt, seven_more (length (candidate ++ shown)) (length candidate) longer ∙ ap suc e) in
+          record {
+            is_open = after.0;
+            held = after.1;
+            counted = refl;
+            corrected = one_more k c;
+            within = leb-false settings.limit n m;
+            none_read = (refl, refl);
+          }
 
-  decoded_right : (opened : Option Candidate) (k : ℕ) (v : Option Accepted) → IsOpen opened → Seven v → GoesRight settings.limit (open_codeblocks opened) (decoded_by settings showing (held K F opened) k v)
+  decoded_right : (opened : Option Candidate) (n k : ℕ) (v : Option Accepted) → IsOpen opened → open_codeblocks opened ≡ n → Seven v →
+      GoesRight settings.limit n k (decoded_by settings showing (held K F opened) n k v)
   unfolding Seven
-  decoded_right None k v o seven = absurd o
-  decoded_right (Some candidate) k None o seven = closing_right (Some candidate) (length candidate / 7) k tt refl
-  decoded_right (Some candidate) k (Some x) o seven = counting_right candidate k x.information x.corrected seven
+  decoded_right None n k v o e seven = absurd o
+  decoded_right (Some candidate) n k None o e seven = closing_right (Some candidate) n k tt e
+  decoded_right (Some candidate) n k (Some x) o e seven = counting_right candidate n k x.information x.corrected e seven
 
-pub codeblock_goes_right : (settings : Settings) (showing : Showing) (h : Held) (k word : ℕ) → IsOpen h.opened → GoesRight settings.limit (added h) (decoded settings showing h k word)
-codeblock_goes_right settings showing h k word o =
-    decoded_right settings showing h.capacity h.finished h.opened k (verdict settings.mode word) o (seven_judged settings.mode word (syndrome word).0 (syndrome word).1)
+pub codeblock_goes_right : (settings : Settings) (showing : Showing) (h : Held) (n k word : ℕ) → IsOpen h.opened → added h ≡ n →
+    GoesRight settings.limit n k (decoded settings showing h n k word)
+codeblock_goes_right settings showing h n k word o e =
+    decoded_right settings showing h.capacity h.finished h.opened n k (verdict settings.mode word) o e
+    (seven_judged settings.mode word (syndrome word).0 (syndrome word).1)

@@ -8,7 +8,6 @@ pub mod Pushed
 pub mod Decoding
 pub mod Kept
 pub mod Counts
-pub mod Among
 pub mod Idle
 pub mod Brings
 pub mod Verdicts

@@ -1,9 +1,9 @@
 -- The promise, for every settings and every showing. Assumes nothing.
 use Rattle.hold.specs.Candidates.{Showing}
-use Rattle.reception.specs.Rules.{Settings}
+use Rattle.reception.specs.Decoding.{Settings}
 use Rattle.reception.specs.Promise.{Promise, ReceiverPromise}
 use Rattle.reception.proofs.Called.{calls_run_as_their_events}
-use Rattle.reception.proofs.Counts.{corrections_are_among_the_codeblocks, a_candidate_is_open_just_in_decode}
+use Rattle.reception.proofs.Counts.{corrections_are_among_the_codeblocks, a_report_tells_the_codeblocks_held, a_candidate_is_open_just_in_decode}
 use Rattle.reception.proofs.Refused.{a_refused_call_changes_nothing}
 use Rattle.reception.proofs.Finished.{what_is_finished_stays}
 use Rattle.reception.proofs.Idle.{idle_brings_it_back}
@@ -26,6 +26,7 @@ receiver_promise settings showing =
       promise = promise settings showing;
       calls = calls_run_as_their_events settings showing;
       counts = corrections_are_among_the_codeblocks settings showing;
+      told = a_report_tells_the_codeblocks_held settings showing;
       opens = a_candidate_is_open_just_in_decode settings showing;
       ready = carrier_up_makes_it_ready settings showing;
     }

@@ -3,7 +3,7 @@ use Rattle.std.proofs.Common.{◌≡◌, ℕ, ◌+◌, ◌*◌, ◌%◌, ◌<◌
 use lib.Bits.{bit_or}
 use mir.Val.{bool_byte}
 use Rattle.std.proofs.lemmas.Nat.{or_shifted}
-use Rattle.reception.specs.Rules.{bit_value}
+use Rattle.reception.specs.Symbols.{bit_value}
 
 byte_is : (b : Bool) → bool_byte b ≡ bit_value b
 byte_is true = refl

@@ -11,14 +11,17 @@ use Rattle.bch.specs.Codeblock.{sent}
 use Rattle.bch.specs.Reception.{wrong_bits}
 use Rattle.hold.specs.Candidates.{Candidate, Showing, shown_from, open_codeblocks, after_add, free_space}
 use Rattle.reception.specs.declared.Reason.TheVariants.{Long, Full}
-use Rattle.reception.specs.Rules.{Settings, Held, opening, adding, abandoning, releasing, added, room, bit_value, next_count, next_window, is_start, start_tolerance, goes_on, ends, counting_in, decoded_by, decoded, report, SEARCH, DECODE, State, state, Event, carrier_up, carrier_down, symbol, release, at_window, at_codeblock, quietly}
+use Rattle.reception.specs.Symbols.{bit_value}
+use Rattle.reception.specs.Searching.{next_count, next_window, is_start, start_tolerance}
+use Rattle.reception.specs.Decoding.{Settings, Held, opening, adding, abandoning, releasing, added, room, reading, begun, goes_on, ends, counting_in, decoded_by, decoded, report}
+use Rattle.reception.specs.Rules.{SEARCH, DECODE, state, Event, carrier_up, carrier_down, symbol, release, at_window, at_decoded, quietly}
 use Rattle.reception.specs.Runs.{after_events}
 use Rattle.reception.specs.Allowance.{value_from, value, block_tolerance, BlocksWithin}
 use Rattle.reception.specs.Promise.{announced, new_candidates}
 use Rattle.reception.proofs.Decoding.{seven_more, length_shown_from}
 use Rattle.reception.proofs.Windows.{not_yet_full}
 use Rattle.reception.proofs.Starts.{Follows, goes_in, window_below, no_false_start, start_is_found}
-use Rattle.reception.proofs.Brings.{Brings, part, brings_nothing, Released, released_none, released_more, after_append, new_append, word_comes}
+use Rattle.reception.proofs.Brings.{Brings, part, brings_nothing, Released, released_none, released_more, Goes, goes_then, word_comes}
 use Rattle.reception.proofs.Verdicts.{value_below, accepted_within}
 
 -- the bits so far are the higher bits of the whole
@@ -43,8 +46,7 @@ module _ (settings : Settings) (showing : Showing) where
   pub record Started (h : Held) (count window : ℕ) (es : List Event) : Type 0 where
     pub hold : Held
     pub released : Released h hold
-    pub after : after_events settings showing (state (SEARCH count window) h) es ≡ state (DECODE 0 0 0) (opening hold)
-    pub new : new_candidates settings showing (state (SEARCH count window) h) es ≡ []
+    pub goes : Goes settings showing (state (SEARCH count window) h) es (state (DECODE begun) (opening hold)) []
 
   module _ (b : Bool) (r c : ℕ) (small : r < 2 ^ 16) (right : weight 16 (r ⊕ 0xEB90) ≤ start_tolerance M) where
     found_at_last : (i p count window : ℕ) (x : Bool) → i + 1 ≡ 16 → count ≡ min 16 (c + i) → 2 * p + bit_value x ≡ r → Follows b i (min c (16 - i)) p window →
@@ -77,14 +79,14 @@ module _ (settings : Settings) (showing : Showing) where
     start_comes (x ∷ xs) [] h i p count window br some long counted all f = absurd br
     start_comes (x ∷ xs) (carrier_up ∷ es) h i p count window br some long counted all f =
         let w = start_comes (x ∷ xs) es h i p count window br some long counted all f in
-        record { hold = w.hold; released = w.released; after = w.after; new = w.new }
+        record { hold = w.hold; released = w.released; goes = record { after = w.goes.after; news = w.goes.news } }
     start_comes (x ∷ xs) (carrier_down ∷ es) h i p count window br some long counted all f = absurd br
     start_comes (x ∷ xs) (release ∷ es) h i p count window br some long counted all f =
         let w = start_comes (x ∷ xs) es (releasing h) i p count window br some long counted all f in
-        record { hold = w.hold; released = released_more w.released; after = w.after; new = w.new }
+        record { hold = w.hold; released = released_more w.released; goes = record { after = w.goes.after; news = w.goes.news } }
     start_comes (x ∷ []) (symbol y ∷ []) h i p count window br some long counted all f =
         let o = ap (λ v. at_window h (next_count count) (next_window window v) (is_start M (next_count count) (next_window window v))) br.0 ∙ ap (at_window h (next_count count) (next_window window x)) (found_at_last i p count window x long counted all f) in
-        record { hold = h; released = released_none h; after = ap (λ u. u.after) o; new = append-nil _ ∙ ap (λ u. announced h.opened u.reports) o }
+        record { hold = h; released = released_none h; goes = record { after = ap (λ u. u.after) o; news = append-nil _ ∙ ap (λ u. announced h.opened u.reports) o } }
     start_comes (x ∷ []) (symbol y ∷ e ∷ es) h i p count window br some long counted all f = absurd br.1
     start_comes (x ∷ z ∷ zs) (symbol y ∷ es) h i p count window br some long counted all f =
         let o = ap (λ v. at_window h (next_count count) (next_window window v) (is_start M (next_count count) (next_window window v))) br.0 ∙ ap (at_window h (next_count count) (next_window window x)) (not_found_before i p count window x (z ∷ zs) (omega arith) long counted all f) in
@@ -92,8 +94,11 @@ module _ (settings : Settings) (showing : Showing) where
         record {
           hold = w.hold;
           released = w.released;
-          after = ap (λ u. after_events settings showing u.after es) o ∙ w.after;
-          new = ap (λ u. announced h.opened u.reports ++ new_candidates settings showing u.after es) o ∙ w.new;
+          goes =
+              record {
+                after = ap (λ u. after_events settings showing u.after es) o ∙ w.goes.after;
+                news = ap (λ u. announced h.opened u.reports ++ new_candidates settings showing u.after es) o ∙ w.goes.news;
+              };
         }
 
   -- ---- codeblocks
@@ -118,33 +123,43 @@ module _ (settings : Settings) (showing : Showing) where
   pub room_kept : (h g : Held) → Released h g → room h ≤ room g
   room_kept h g r = omega (arith, r.capacity, r.less, ap open_codeblocks r.opened)
 
-  accepted_goes_on : (g : Held) (k : ℕ) (octets : List ℕ) (c : Bool) → added g < settings.limit → 1 ≤ room g → counting_in settings showing g k octets c ≡ goes_on (adding showing g octets) (k + bit_value c)
-  accepted_goes_on g k octets c few free =
-      ap₂ (λ (many full : Bool). cond many (ends (abandoning g) (report Long (added g) k)) (cond full (ends (abandoning g) (report Full (added g) k)) (goes_on (adding showing g octets) (k + bit_value c))))
-      (lt-leb settings.limit (added g) few) (ne_eqb (room g) 0 (λ z. omega arith))
+  accepted_goes_on : (g : Held) (n k : ℕ) (octets : List ℕ) (c : Bool) → n < settings.limit → 1 ≤ room g →
+      counting_in settings showing g n k octets c ≡ goes_on (adding showing g octets) (reading 0 0 (suc n) (k + bit_value c))
+  accepted_goes_on g n k octets c few free =
+      ap₂ (λ (many full : Bool). cond many (ends (abandoning g) (report Long n k)) (cond full (ends (abandoning g) (report Full n k)) (goes_on (adding showing g octets) (reading 0 0 (suc n) (k + bit_value c)))))
+      (lt-leb settings.limit n few) (ne_eqb (room g) 0 (λ z. omega arith))
 
-  pub record BlocksIn (h : Held) (k : ℕ) (candidate : Candidate) (octets : List ℕ) (es : List Event) : Type 0 where
+  -- m codeblocks more in a candidate of n, k of them corrected
+  pub record BlocksIn (h : Held) (n m k : ℕ) (candidate : Candidate) (octets : List ℕ) (es : List Event) : Type 0 where
     pub hold : Held
+    pub codeblocks : ℕ
     pub corrections : ℕ
-    pub after : after_events settings showing (state (DECODE 0 0 k) h) es ≡ state (DECODE 0 0 corrections) hold
+    pub counted : codeblocks ≡ n + m
+    pub goes : Goes settings showing (state (DECODE (reading 0 0 n k)) h) es (state (DECODE (reading 0 0 codeblocks corrections)) hold) []
     pub opened : hold.opened ≡ Some (candidate ++ shown_from showing (length candidate) octets)
-    pub new : new_candidates settings showing (state (DECODE 0 0 k) h) es ≡ []
 
-  blocks_none : (h : Held) (k : ℕ) (candidate : Candidate) (octets : List ℕ) (es : List Event) → h.opened ≡ Some candidate → octets ≡ [] → es ≡ [] → BlocksIn h k candidate octets es
-  blocks_none h k candidate octets es opened no-octets no-events =
-      subst (λ l. BlocksIn h k candidate octets l) (sym no-events)
-      (record { hold = h; corrections = k; after = refl; opened = opened ∙ ap Some (sym (ap (λ l. candidate ++ shown_from showing (length candidate) l) no-octets ∙ append-nil candidate)); new = refl })
+  blocks_none : (h : Held) (n k : ℕ) (candidate : Candidate) (octets : List ℕ) (es : List Event) → h.opened ≡ Some candidate → octets ≡ [] → es ≡ [] → BlocksIn h n 0 k candidate octets es
+  blocks_none h n k candidate octets es opened no-octets no-events =
+      subst (λ l. BlocksIn h n 0 k candidate octets l) (sym no-events)
+      (record {
+        hold = h;
+        codeblocks = n;
+        corrections = k;
+        counted = omega arith;
+        goes = record { after = refl; news = refl };
+        opened = opened ∙ ap Some (sym (ap (λ l. candidate ++ shown_from showing (length candidate) l) no-octets ∙ append-nil candidate));
+      })
 
   seven_long : (octets : List ℕ) (n : ℕ) → 7 * suc n ≡ length octets → length (take 7 octets) ≡ 7
   seven_long octets n e = length-take-le 7 octets (omega arith)
 
   -- one codeblock is added
-  block_added : (block : List Bool) (octets : List ℕ) (n : ℕ) (h g : Held) (k : ℕ) → length block ≡ 64 → wrong_bits (sent (take 7 octets)) (value block) ≤ block_tolerance M → AllBelowBase 256 octets → 7 * suc n ≡ length octets →
-      added h + suc n ≤ settings.limit → suc n ≤ room h → Released h g → (c : Bool) × (at_codeblock (decoded settings showing g k (value block)) ≡ quietly (DECODE 0 0 (k + bit_value c)) (adding showing g (take 7 octets)))
-  block_added block octets n h g k long few octet all limit free released =
-      let v = accepted_within M (take 7 octets) (seven_long octets n all, All-take (λ x. x < 256) 7 octets octet) (value block) (value_below block 64 long) few in
-      let same = ap open_codeblocks released.opened in
-      (v.0, ap (λ w. at_codeblock (decoded_by settings showing g k w)) v.1 ∙ ap at_codeblock (accepted_goes_on g k (take 7 octets) v.0 (omega (arith, same)) (omega (arith, room_kept h g released))))
+  block_added : (block : List Bool) (octets : List ℕ) (m : ℕ) (h g : Held) (n k : ℕ) → length block ≡ 64 → wrong_bits (sent (take 7 octets)) (value block) ≤ block_tolerance M → AllBelowBase 256 octets →
+      7 * suc m ≡ length octets → n + suc m ≤ settings.limit → suc m ≤ room h → Released h g →
+      (c : Bool) × (at_decoded (decoded settings showing g n k (value block)) ≡ quietly (DECODE (reading 0 0 (suc n) (k + bit_value c))) (adding showing g (take 7 octets)))
+  block_added block octets m h g n k long few octet all limit free released =
+      let v = accepted_within M (take 7 octets) (seven_long octets m all, All-take (λ x. x < 256) 7 octets octet) (value block) (value_below block 64 long) few in
+      (v.0, ap (λ w. at_decoded (decoded_by settings showing g n k w)) v.1 ∙ ap at_decoded (accepted_goes_on g n k (take 7 octets) v.0 (omega arith) (omega (arith, room_kept h g released))))
 
   -- what the rest needs
   added_more : (g : Held) (candidate : Candidate) (octets : List ℕ) → g.opened ≡ Some candidate → length octets ≡ 7 → 1 ≤ room g →
@@ -156,30 +171,29 @@ module _ (settings : Settings) (showing : Showing) where
       let one = ap open_codeblocks o ∙ seven_more (length next) (length candidate) longer ∙ ap suc (sym (ap open_codeblocks opened)) in
       (o, one, omega (arith, one))
 
-  pub blocks_come : (blocks : List (List Bool)) (octets : List ℕ) (es : List Event) (h : Held) (k : ℕ) (candidate : Candidate) → Brings (flat_map (λ block. block) blocks) es → BlocksWithin M octets blocks → AllBelowBase 256 octets →
-      7 * length blocks ≡ length octets → added h + length blocks ≤ settings.limit → length blocks ≤ room h → h.opened ≡ Some candidate → BlocksIn h k candidate octets es
-  blocks_come [] octets es h k candidate br within octet all limit free opened = blocks_none h k candidate octets es opened (nil_from_length octets (omega arith)) (brings_nothing es br)
-  blocks_come (block ∷ blocks) octets es h k candidate br within octet all limit free opened =
+  pub blocks_come : (blocks : List (List Bool)) (octets : List ℕ) (es : List Event) (h : Held) (n k : ℕ) (candidate : Candidate) → Brings (flat_map (λ block. block) blocks) es → BlocksWithin M octets blocks → AllBelowBase 256 octets →
+      7 * length blocks ≡ length octets → n + length blocks ≤ settings.limit → length blocks ≤ room h → h.opened ≡ Some candidate →
+      BlocksIn h n (length blocks) k candidate octets es
+  blocks_come [] octets es h n k candidate br within octet all limit free opened = blocks_none h n k candidate octets es opened (nil_from_length octets (omega arith)) (brings_nothing es br)
+  blocks_come (block ∷ blocks) octets es h n k candidate br within octet all limit free opened =
       let p = part es block (flat_map (λ b. b) blocks) br in
-      let w = word_comes settings showing block p.front h 0 0 k p.first (omega (arith, within.0)) (omega (arith, within.0)) in
+      let w = word_comes settings showing block p.front h (reading 0 0 n k) p.first (omega (arith, within.0)) (omega (arith, within.0)) in
       let g = w.hold in
-      let one = block_added block octets (length blocks) h g k within.0 within.1 octet all limit free w.released in
+      let one = block_added block octets (length blocks) h g n k within.0 within.1 octet all limit free w.released in
       let seven = take 7 octets in
       let c = one.0 in
       let next = adding showing g seven in
       let more = added_more g candidate seven (w.released.opened ∙ opened) (seven_long octets (length blocks) all) (omega (arith, room_kept h g w.released)) in
-      let same = ap open_codeblocks w.released.opened in
-      let rest = blocks_come blocks (drop 7 octets) p.back next (k + bit_value c) (candidate ++ shown_from showing (length candidate) seven) p.second within.2 (All-drop (λ x. x < 256) 7 octets octet)
-      (omega (arith, length-drop 7 octets)) (omega (arith, more.1, same)) (omega (arith, more.2, room_kept h g w.released)) more.0 in
-      let front_after : after_events settings showing (state (DECODE 0 0 k) h) p.front ≡ state (DECODE 0 0 (k + bit_value c)) next = w.after ∙ ap (λ u. u.after) one.1 in
-      let front_new : new_candidates settings showing (state (DECODE 0 0 k) h) p.front ≡ [] = w.new ∙ ap (λ u. announced g.opened u.reports) one.1 in
+      let rest = blocks_come blocks (drop 7 octets) p.back next (suc n) (k + bit_value c) (candidate ++ shown_from showing (length candidate) seven) p.second within.2 (All-drop (λ x. x < 256) 7 octets octet)
+      (omega (arith, length-drop 7 octets)) (omega arith) (omega (arith, more.2, room_kept h g w.released)) more.0 in
       record {
         hold = rest.hold;
+        codeblocks = rest.codeblocks;
         corrections = rest.corrections;
-        after = ap (after_events settings showing (state (DECODE 0 0 k) h)) p.whole ∙ after_append settings showing p.front p.back (state (DECODE 0 0 k) h) ∙ ap (λ s. after_events settings showing s p.back) front_after ∙ rest.after;
+        counted = omega (arith, rest.counted);
+        goes = goes_then settings showing {fs = p.front} {gs = p.back} p.whole
+            (record { after = w.after ∙ ap (λ u. u.after) one.1; news = w.new ∙ ap (λ u. announced g.opened u.reports) one.1 }) rest.goes;
         opened = rest.opened ∙ ap Some (append_assoc candidate (shown_from showing (length candidate) seven) _ ∙ ap (λ l. candidate ++ l)
             (ap (λ n. shown_from showing (length candidate) seven ++ shown_from showing n (drop 7 octets)) (length-append candidate (shown_from showing (length candidate) seven) ∙ ap (λ n. length candidate + n) (length_shown_from showing (length candidate) seven))
             ∙ sym (shown_append (length candidate) seven (drop 7 octets)) ∙ ap (shown_from showing (length candidate)) (take-append-drop 7 octets)));
-        new = ap (new_candidates settings showing (state (DECODE 0 0 k) h)) p.whole ∙ new_append settings showing p.front p.back (state (DECODE 0 0 k) h)
-            ∙ ap₂ (λ (l : List Candidate) (s : State). l ++ new_candidates settings showing s p.back) front_new front_after ∙ rest.new;
       }

@@ -1,5 +1,5 @@
 -- Every list of CLTUs within the allowance is received, with idle, a carrier break or nothing between them. Assumes nothing.
-use Rattle.std.proofs.Common.{◌≡◌, ℕ, zero, suc, ◌-◌, ◌*◌, ◌/◌, ◌%◌, ◌^◌, ◌≤◌, min, Bool, true, false, not, ◌⊎◌, List, [], ◌∷◌, ◌++◌, map, length, replicate, Some, None, Option, sym, refl, ap, ◌∙◌, subst, ap₂, inl, inr, append-nil, add-zero, mul-one, arith}
+use Rattle.std.proofs.Common.{◌≡◌, ℕ, zero, suc, ◌-◌, ◌*◌, ◌%◌, ◌^◌, ◌≤◌, min, Bool, true, false, not, ◌⊎◌, List, [], ◌∷◌, ◌++◌, map, length, replicate, Some, None, Option, sym, refl, ap, ◌∙◌, subst, ap₂, inl, inr, append-nil, add-zero, mul-one, arith}
 use Rattle.std.specs.Int.Digits.{AllBelowBase}
 use Rattle.std.specs.List.{flat_map}
 use Rattle.bch.specs.Reception.{rejected, verdict}
@@ -9,14 +9,16 @@ use Rattle.randomizer.proofs.Laws.{octets_stay_octets}
 use Rattle.cltu.specs.Cltu.{fill_for, filled}
 use Rattle.hold.specs.Candidates.{Candidate, Showing, shown_from, Matches, open_codeblocks, after_open, open_after_finish}
 use Rattle.reception.specs.declared.Reason.TheVariants.{Closed}
-use Rattle.reception.specs.Rules.{Settings, Held, opening, finishing, added, room, next_count, next_window, is_start, closing, decoded_by, report, Phase, INACTIVE, SEARCH, DECODE, State, state, Event, carrier_up, carrier_down, symbol, release, at_window, at_codeblock, reporting, searching, at_up, made}
+use Rattle.reception.specs.Searching.{next_count, next_window, is_start}
+use Rattle.reception.specs.Decoding.{Settings, Held, opening, finishing, room, reading, begun, closing, decoded_by, report}
+use Rattle.reception.specs.Rules.{Phase, INACTIVE, SEARCH, DECODE, State, state, Event, carrier_up, carrier_down, symbol, release, at_window, at_decoded, reporting, searching, at_up, made}
 use Rattle.reception.specs.Runs.{after_events, symbols_in, CarrierStaysUp, NothingButIdle, Clear, idle, idle_before}
 use Rattle.reception.specs.Allowance.{value, ReceivedCltu, symbols_of, WithinAllowance}
 use Rattle.reception.specs.Promise.{announced, new_candidates, IdleOrNothing, CarrierUpMakesItReady, CarrierStaysDown, CarrierBreak, Transmission, information_sent, events_of, WellSent, FollowOneAnother, SentFrom, WhatIsSentThenIsReceived}
 use Rattle.reception.proofs.Decoding.{length_shown_from}
 use Rattle.reception.proofs.Kept.{none_open_in_inactive}
 use Rattle.reception.proofs.Idle.{idle_is_no_start, idle_goes_in}
-use Rattle.reception.proofs.Brings.{same_first, Brings, split, Released, released_none, released_more, after_append, new_append, word_comes}
+use Rattle.reception.proofs.Brings.{same_first, Brings, split, Goes, Released, released_none, released_more, after_append, new_append, goes_then, word_comes}
 use Rattle.reception.proofs.Starts.{Follows}
 use Rattle.reception.proofs.Received.{start_comes, blocks_come, room_kept}
 use Rattle.reception.proofs.Verdicts.{value_below, tail_is_rejected}
@@ -27,47 +29,72 @@ none_open [] some = absurd (omega arith)
 none_open (x ∷ xs) some = refl
 
 module _ (settings : Settings) (showing : Showing) where
-  pub record TailIn (h : Held) (k : ℕ) (candidate : Candidate) (es : List Event) : Type 0 where
+  -- events that add one candidate and lead to SEARCH with an empty window
+  pub record OneIn (s : State) (candidate : Candidate) (es : List Event) : Type 0 where
     pub hold : Held
-    pub after : after_events settings showing (state (DECODE 0 0 k) h) es ≡ state (SEARCH 0 0) hold
+    pub goes : Goes settings showing s es (state (SEARCH 0 0) hold) (candidate ∷ [])
     pub opened : hold.opened ≡ None
-    pub new : new_candidates settings showing (state (DECODE 0 0 k) h) es ≡ candidate ∷ []
 
-  closed_by : (g : Held) (k n : ℕ) (candidate : Candidate) → g.opened ≡ Some candidate → added g ≡ suc n → at_codeblock (closing g (added g) k) ≡ reporting searching (finishing g) (report Closed (suc n) k)
-  closed_by g k n candidate opened e = ap (λ m. at_codeblock (closing g m k)) e
+  closed_by : (g : Held) (n m k : ℕ) → n ≡ suc m → at_decoded (closing g n k) ≡ reporting searching (finishing g) (report Closed (suc m) k)
+  closed_by g n m k e = ap (λ n. at_decoded (closing g n k)) e
 
   announces : (o : Option Candidate) (candidate : Candidate) (n k : ℕ) → o ≡ Some candidate → announced o (report Closed n k ∷ []) ≡ candidate ∷ []
   announces o candidate n k e = ap (λ x. announced x (report Closed n k ∷ [])) e
 
-  tail_comes : (xs : List Bool) (es : List Event) (h : Held) (k n : ℕ) (candidate : Candidate) → Brings xs es → length xs ≡ 64 → verdict settings.mode (value xs) ≡ rejected → h.opened ≡ Some candidate → length candidate / 7 ≡ suc n →
-      TailIn h k candidate es
-  tail_comes xs es h k n candidate br long rejected opened some =
-      let w = word_comes settings showing xs es h 0 0 k br (omega arith) (omega arith) in
+  tail_comes : (xs : List Bool) (es : List Event) (h : Held) (n m k : ℕ) (candidate : Candidate) → Brings xs es → length xs ≡ 64 → verdict settings.mode (value xs) ≡ rejected → h.opened ≡ Some candidate →
+      n ≡ suc m → 1 ≤ length candidate → OneIn (state (DECODE (reading 0 0 n k)) h) candidate es
+  tail_comes xs es h n m k candidate br long rejected opened counted some =
+      let w = word_comes settings showing xs es h (reading 0 0 n k) br (omega arith) (omega arith) in
       let g = w.hold in
       let open_still = w.released.opened ∙ opened in
-      let o = ap (λ v. at_codeblock (decoded_by settings showing g k v)) rejected ∙ closed_by g k n candidate open_still (ap open_codeblocks open_still ∙ some) in
+      let o = ap (λ v. at_decoded (decoded_by settings showing g n k v)) rejected ∙ closed_by g n m k counted in
       record {
         hold = finishing g;
-        after = w.after ∙ ap (λ u. u.after) o;
-        opened = ap open_after_finish open_still ∙ none_open candidate (omega arith);
-        new = w.new ∙ ap (λ u. announced g.opened u.reports) o ∙ announces g.opened candidate (suc n) k open_still;
+        goes =
+            record {
+              after = w.after ∙ ap (λ u. u.after) o;
+              news = w.new ∙ ap (λ u. announced g.opened u.reports) o ∙ announces g.opened candidate (suc m) k open_still;
+            };
+        opened = ap open_after_finish open_still ∙ none_open candidate some;
       }
 
   -- events that bring nothing more
   pub record QuietlyIn (count window : ℕ) (h : Held) (es : List Event) : Type 0 where
     pub hold : Held
     pub released : Released h hold
-    pub after : after_events settings showing (state (SEARCH count window) h) es ≡ state (SEARCH count window) hold
-    pub new : new_candidates settings showing (state (SEARCH count window) h) es ≡ []
+    pub goes : Goes settings showing (state (SEARCH count window) h) es (state (SEARCH count window) hold) []
 
   quietly_on : (es : List Event) (count window : ℕ) (h : Held) → CarrierStaysUp es → symbols_in es ≡ [] → QuietlyIn count window h es
-  quietly_on [] count window h up e = record { hold = h; released = released_none h; after = refl; new = refl }
-  quietly_on (carrier_up ∷ es) count window h up e = let w = quietly_on es count window h up e in record { hold = w.hold; released = w.released; after = w.after; new = w.new }
+  quietly_on [] count window h up e = record { hold = h; released = released_none h; goes = record { after = refl; news = refl } }
+  quietly_on (carrier_up ∷ es) count window h up e =
+      let w = quietly_on es count window h up e in
+      record { hold = w.hold; released = w.released; goes = record { after = w.goes.after; news = w.goes.news } }
   quietly_on (carrier_down ∷ es) count window h up e = absurd up
   quietly_on (symbol b ∷ es) count window h up e = absurd (let z : ◌≡◌ {A = ℕ} 0 1 = cc in omega arith)
   quietly_on (release ∷ es) count window h up e =
       let w = quietly_on es count window _ up e in
-      record { hold = w.hold; released = released_more w.released; after = w.after; new = w.new }
+      record { hold = w.hold; released = released_more w.released; goes = record { after = w.goes.after; news = w.goes.news } }
+
+  -- the tail, and events behind it that bring nothing more
+  tail_and_no_more : (xs : List Bool) (es : List Event) (h : Held) (n m k : ℕ) (candidate : Candidate) → CarrierStaysUp es → symbols_in es ≡ xs → length xs ≡ 64 → verdict settings.mode (value xs) ≡ rejected →
+      h.opened ≡ Some candidate → n ≡ suc m → 1 ≤ length candidate → OneIn (state (DECODE (reading 0 0 n k)) h) candidate es
+  tail_and_no_more xs es h n m k candidate up symbols long rejected opened counted some =
+      let p = split es xs [] (symbols ∙ sym (append-nil xs)) up in
+      let tail = tail_comes xs p.front h n m k candidate p.brings long rejected opened counted some in
+      let rest = quietly_on p.back 0 0 tail.hold p.stays p.rest in
+      record { hold = rest.hold; goes = goes_then settings showing {fs = p.front} {gs = p.back} p.whole tail.goes rest.goes; opened = rest.released.opened ∙ tail.opened }
+
+  -- what follows the start sequence
+  behind_the_start : (cltu : ReceivedCltu) (octets : List ℕ) (es : List Event) (h : Held) → CarrierStaysUp es → symbols_in es ≡ flat_map (λ block. block) cltu.blocks ++ cltu.tail →
+      AllBelowBase 256 octets → WithinAllowance settings octets cltu → length cltu.blocks ≤ room h → h.opened ≡ Some [] → OneIn (state (DECODE begun) h) (shown_from showing 0 octets) es
+  behind_the_start cltu octets es h up symbols octet within space empty =
+      let p = split es (flat_map (λ block. block) cltu.blocks) cltu.tail symbols up in
+      let blocks = blocks_come settings showing cltu.blocks octets p.front h 0 0 [] p.brings within.blocks_right octet within.blocks_all (omega (arith, within.blocks_few)) space empty in
+      let long = length_shown_from showing 0 octets in
+      let rest = tail_and_no_more cltu.tail p.back blocks.hold blocks.codeblocks (length cltu.blocks - 1) blocks.corrections (shown_from showing 0 octets) p.stays p.rest within.tail_long
+          (tail_is_rejected (value cltu.tail) (value_below cltu.tail 64 within.tail_long) settings.mode within.tail_right) blocks.opened
+          (omega (arith, blocks.counted, within.blocks_some)) (omega (arith, long, within.blocks_all, within.blocks_some)) in
+      record { hold = rest.hold; goes = goes_then settings showing {fs = p.front} {gs = p.back} p.whole blocks.goes rest.goes; opened = rest.opened }
 
   begins_idle : (b : Bool) (count window : ℕ) → NothingButIdle b count window → Follows b 0 (min count (16 - 0)) 0 window
   begins_idle b count window (few, e) =
@@ -78,44 +105,16 @@ module _ (settings : Settings) (showing : Showing) where
   opened_empty : (o : Option Candidate) → o ≡ None → after_open o ≡ Some []
   opened_empty o e = ap after_open e
 
-  pub record OneIn (s : State) (octets : List ℕ) (es : List Event) : Type 0 where
-    pub hold : Held
-    pub after : after_events settings showing s es ≡ state (SEARCH 0 0) hold
-    pub opened : hold.opened ≡ None
-    pub new : new_candidates settings showing s es ≡ shown_from showing 0 octets ∷ []
-
   pub one_cltu : (b : Bool) (count window : ℕ) (h : Held) (octets : List ℕ) (cltu : ReceivedCltu) (es : List Event) → h.opened ≡ None → NothingButIdle b count window → AllBelowBase 256 octets →
-      CarrierStaysUp es → symbols_in es ≡ symbols_of cltu → WithinAllowance settings octets cltu → length cltu.blocks ≤ room h → OneIn (state (SEARCH count window) h) octets es
+      CarrierStaysUp es → symbols_in es ≡ symbols_of cltu → WithinAllowance settings octets cltu → length cltu.blocks ≤ room h → OneIn (state (SEARCH count window) h) (shown_from showing 0 octets) es
   one_cltu b count window h octets cltu es none calm octet up symbols within space =
-      let s = state (SEARCH count window) h in
-      let p₁ = split es cltu.start (flat_map (λ block. block) cltu.blocks ++ cltu.tail) symbols up in
-      let p₂ = split p₁.back (flat_map (λ block. block) cltu.blocks) cltu.tail p₁.rest p₁.stays in
-      let p₃ = split p₂.back cltu.tail [] (p₂.rest ∙ sym (append-nil cltu.tail)) p₂.stays in
-      let st = start_comes settings showing b (value cltu.start) count (value_below cltu.start 16 within.start_long) within.start_right cltu.start p₁.front h 0 0 count window p₁.brings (omega (arith, within.start_long)) (omega (arith, within.start_long)) (omega (arith, calm.0)) refl (begins_idle b count window calm) in
+      let p = split es cltu.start (flat_map (λ block. block) cltu.blocks ++ cltu.tail) symbols up in
+      let st = start_comes settings showing b (value cltu.start) count (value_below cltu.start 16 within.start_long) within.start_right cltu.start p.front h 0 0 count window p.brings (omega (arith, within.start_long)) (omega (arith, within.start_long)) (omega (arith, calm.0)) refl (begins_idle b count window calm) in
       let g = st.hold in
       let empty = opened_empty g.opened (st.released.opened ∙ none) in
-      let nothing = ap open_codeblocks empty in
       let closed = ap open_codeblocks (st.released.opened ∙ none) in
-      let bl = blocks_come settings showing cltu.blocks octets p₂.front (opening g) 0 [] p₂.brings within.blocks_right octet within.blocks_all (omega (arith, nothing, within.blocks_few)) (omega (arith, nothing, closed, room_kept settings showing h g st.released)) empty in
-      let candidate = shown_from showing 0 octets in
-      let long : length candidate ≡ length octets = length_shown_from showing 0 octets in
-      let some : length candidate / 7 ≡ suc (length cltu.blocks - 1) = counted (length candidate) (length cltu.blocks) (long ∙ sym within.blocks_all) within.blocks_some in
-      let ta = tail_comes cltu.tail p₃.front bl.hold bl.corrections (length cltu.blocks - 1) candidate p₃.brings within.tail_long (tail_is_rejected (value cltu.tail) (value_below cltu.tail 64 within.tail_long) settings.mode within.tail_right) bl.opened some in
-      let qu = quietly_on p₃.back 0 0 ta.hold p₃.stays p₃.rest in
-      let run = λ (u : State) (l : List Event). after_events settings showing u l in
-      let news = λ (u : State) (l : List Event). new_candidates settings showing u l in
-      record {
-        hold = qu.hold;
-        after = ap (run s) p₁.whole ∙ after_append settings showing p₁.front p₁.back s ∙ ap₂ run st.after p₂.whole ∙ after_append settings showing p₂.front p₂.back (state (DECODE 0 0 0) (opening g))
-            ∙ ap₂ run bl.after p₃.whole ∙ after_append settings showing p₃.front p₃.back (state (DECODE 0 0 bl.corrections) bl.hold) ∙ ap (λ u. run u p₃.back) ta.after ∙ qu.after;
-        opened = qu.released.opened ∙ ta.opened;
-        new = ap (news s) p₁.whole ∙ new_append settings showing p₁.front p₁.back s ∙ ap₂ (λ (l : List Candidate) (u : State). l ++ news u p₁.back) st.new st.after ∙ ap (news (state (DECODE 0 0 0) (opening g))) p₂.whole
-            ∙ new_append settings showing p₂.front p₂.back (state (DECODE 0 0 0) (opening g)) ∙ ap₂ (λ (l : List Candidate) (u : State). l ++ news u p₂.back) bl.new bl.after ∙ ap (news (state (DECODE 0 0 bl.corrections) bl.hold)) p₃.whole
-            ∙ new_append settings showing p₃.front p₃.back (state (DECODE 0 0 bl.corrections) bl.hold) ∙ ap₂ (λ (l : List Candidate) (u : State). l ++ news u p₃.back) ta.new ta.after ∙ ap (λ l. candidate ∷ l) qu.new;
-      }
-    where
-      counted : (m n : ℕ) → m ≡ 7 * n → 1 ≤ n → m / 7 ≡ suc (n - 1)
-      counted m n e some = omega arith
+      let rest = behind_the_start cltu octets p.back (opening g) p.stays p.rest octet within (omega (arith, ap open_codeblocks empty, closed, room_kept settings showing h g st.released)) empty in
+      record { hold = rest.hold; goes = goes_then settings showing {fs = p.front} {gs = p.back} p.whole st.goes rest.goes; opened = rest.opened }
 
   -- ---- what lies between
 
@@ -235,9 +234,9 @@ module _ (settings : Settings) (showing : Showing) (randomizer : Randomizer) whe
 
   -- one CLTU that comes where nothing but idle is in the window
   pub one_well_sent : (s : State) (next : Bool) (count window : ℕ) (h : Held) (t : Transmission) → s ≡ state (SEARCH count window) h → h.opened ≡ None → NothingButIdle next count window → WellSent settings showing randomizer s t →
-      OneIn settings showing s (information_sent randomizer t) t.events
+      OneIn settings showing s (shown_from showing 0 (information_sent randomizer t)) t.events
   one_well_sent s next count window h t is none calm well =
-      subst (λ u. OneIn settings showing u (information_sent randomizer t) t.events) (sym is)
+      subst (λ u. OneIn settings showing u (shown_from showing 0 (information_sent randomizer t)) t.events) (sym is)
       (one_cltu settings showing next count window h (information_sent randomizer t) t.received t.events none calm
       (octets_stay_octets randomizer 0 (filled t.frame) (under_filled t.frame well.octets)) well.carrier well.symbols well.within
       (subst (λ u. length t.received.blocks ≤ room u.held) is well.space))
@@ -267,8 +266,8 @@ module _ (settings : Settings) (showing : Showing) (randomizer : Randomizer) whe
       let gap = gap_comes settings showing t.gap h none follow.0 in
       let there = run s t.gap in
       let one = one_well_sent there gap.next gap.count gap.window gap.hold t gap.after gap.opened gap.calm follow.1 in
-      let rest = all_follow ts one.hold one.opened (subst (λ u. FollowOneAnother settings showing randomizer u ts) one.after follow.2) in
-      let both = joined_to there t ts one.hold one.after one.new rest in
+      let rest = all_follow ts one.hold one.opened (subst (λ u. FollowOneAnother settings showing randomizer u ts) one.goes.after follow.2) in
+      let both = joined_to there t ts one.hold one.goes.after one.goes.news rest in
       record {
         clear = subst ClearState (sym (after_append settings showing t.gap (t.events ++ events_of ts) s)) both.0;
         new = new_append settings showing t.gap (t.events ++ events_of ts) s ∙ ap (λ l. l ++ news there (t.events ++ events_of ts)) gap.new ∙ both.1;
@@ -280,11 +279,11 @@ module _ (settings : Settings) (showing : Showing) (randomizer : Randomizer) whe
     where
       by : (p : Phase) (h : Held) → Clear p h → s ≡ state p h → AllIn s (t ∷ ts)
       by INACTIVE h c is = absurd c
-      by (DECODE count word k) h c is = absurd c
+      by (DECODE r) h c is = absurd c
       by (SEARCH count window) h c is =
           let one = one_well_sent s c.1.0 count window h t is c.0 c.1.1 sent.1 in
-          let rest = all_follow ts one.hold one.opened (subst (λ u. FollowOneAnother settings showing randomizer u ts) one.after sent.2) in
-          let both = joined_to s t ts one.hold one.after one.new rest in
+          let rest = all_follow ts one.hold one.opened (subst (λ u. FollowOneAnother settings showing randomizer u ts) one.goes.after sent.2) in
+          let both = joined_to s t ts one.hold one.goes.after one.goes.news rest in
           let at_once = ap (λ l. l ++ (t.events ++ events_of ts)) sent.0 in
           record { clear = subst (λ l. ClearState (run s l)) (sym at_once) both.0; new = ap (news s) at_once ∙ both.1 }
 

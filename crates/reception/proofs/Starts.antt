@@ -10,7 +10,8 @@ use Rattle.bch.specs.declared.Mode.TheVariants.{Detecting, Correcting}
 use Rattle.bch.specs.Polynomial.{◌⊕◌, weight}
 use Rattle.bch.proofs.Sums.{bit, added_twice}
 use Rattle.bch.proofs.Weights.{weight_ones}
-use Rattle.reception.specs.Rules.{bit_value, next_window, start_tolerance, is_start}
+use Rattle.reception.specs.Symbols.{bit_value}
+use Rattle.reception.specs.Searching.{next_window, start_tolerance, is_start}
 use Rattle.reception.specs.Runs.{idle_before}
 use Rattle.reception.proofs.Windows.{pushed, bit_below}
 

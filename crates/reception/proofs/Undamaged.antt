@@ -18,7 +18,9 @@ use Rattle.randomizer.proofs.Laws.{octets_stay_octets}
 use Rattle.cltu.specs.Cltu.{codeblocks_for, filled, coded, start_sequence, tail_sequence, cltu}
 use Rattle.cltu.proofs.Places.{length_sent}
 use Rattle.hold.specs.Candidates.{Showing}
-use Rattle.reception.specs.Rules.{Settings, bit_value, made}
+use Rattle.reception.specs.Symbols.{bit_value}
+use Rattle.reception.specs.Decoding.{Settings}
+use Rattle.reception.specs.Rules.{made}
 use Rattle.reception.specs.Runs.{after_events}
 use Rattle.bch.specs.Bits.{bit_at, octet_bits, bits_of}
 use Rattle.reception.specs.Allowance.{value_from, value, block_tolerance, BlocksWithin, WithinAllowance, blocks_of, undamaged, symbols_of}

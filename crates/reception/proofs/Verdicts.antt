@@ -13,7 +13,7 @@ use Rattle.bch.proofs.Places.{place_of_power}
 use Rattle.bch.proofs.Syndromes.{pattern_added}
 use Rattle.bch.proofs.Weights.{parity_sum, weight_none, weight_one}
 use Rattle.cltu.specs.Cltu.{tail_sequence}
-use Rattle.reception.specs.Rules.{bit_value}
+use Rattle.reception.specs.Symbols.{bit_value}
 use Rattle.reception.specs.Allowance.{value_from, value, block_tolerance, tail_tolerance}
 use Rattle.reception.proofs.Words.{doubled}
 

@@ -8,7 +8,8 @@ use Rattle.bch.specs.declared.Mode.{Mode}
 use Rattle.bch.specs.declared.Mode.TheVariants.{Detecting, Correcting}
 use Rattle.bch.specs.Polynomial.{◌⊕◌, weight}
 use Rattle.reception.specs.Runs.{idle_before}
-use Rattle.reception.specs.Rules.{bit_value, next_window, start_tolerance, is_start}
+use Rattle.reception.specs.Symbols.{bit_value}
+use Rattle.reception.specs.Searching.{next_window, start_tolerance, is_start}
 
 -- the last bits of the window, as many as j, are idle that goes on with b
 abbrev pub EndsIdle : (j : ℕ) → Bool → ℕ → Type 0

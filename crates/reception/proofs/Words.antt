@@ -1,6 +1,6 @@
 -- Bits that enter a word. Assumes nothing.
 use Rattle.std.proofs.Common.{ℕ, suc, ◌+◌, ◌*◌, ◌^◌, ◌<◌, Bool, true, false, pow-suc, arith, pow_mono}
-use Rattle.reception.specs.Rules.{bit_value}
+use Rattle.reception.specs.Symbols.{bit_value}
 
 -- so many bits make a number below that power of 2
 pub doubled : (n w : ℕ) (b : Bool) → w < 2 ^ n → 2 * w + bit_value b < 2 ^ suc n

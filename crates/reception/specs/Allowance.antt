@@ -11,7 +11,9 @@ use Rattle.bch.specs.Reception.{wrong_bits}
 use Rattle.randomizer.specs.declared.Randomizer.{Randomizer}
 use Rattle.randomizer.specs.Sequence.{randomized}
 use Rattle.cltu.specs.Cltu.{codeblocks_for, filled, start_sequence, tail_sequence}
-use Rattle.reception.specs.Rules.{Settings, bit_value, start_tolerance}
+use Rattle.reception.specs.Symbols.{bit_value}
+use Rattle.reception.specs.Searching.{start_tolerance}
+use Rattle.reception.specs.Decoding.{Settings}
 
 -- the number that bits write behind a number
 abbrev pub value_from : ℕ → List Bool → ℕ

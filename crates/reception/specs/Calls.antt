@@ -5,7 +5,8 @@ use Rattle.refusals.specs.declared.Refusal.{Refusal}
 use Rattle.refusals.specs.declared.Refusal.TheVariants.{CarrierAlreadyUp, CarrierDown, NoCandidate}
 use Rattle.hold.specs.Candidates.{Candidate, Showing}
 use Rattle.reception.specs.declared.Report.{Report}
-use Rattle.reception.specs.Rules.{Settings, Held, made, State, Phase, INACTIVE, SEARCH, DECODE, Event, carrier_up, carrier_down, symbol, release}
+use Rattle.reception.specs.Decoding.{Settings, Held}
+use Rattle.reception.specs.Rules.{made, State, Phase, INACTIVE, SEARCH, DECODE, Event, carrier_up, carrier_down, symbol, release}
 use Rattle.reception.specs.Runs.{after_events, reports_of}
 
 -- carrier down and symbols bring a queue with so many free slots, also none
@@ -28,12 +29,12 @@ events_in call_release = release ∷ []
 abbrev pub refused_if_up : Phase → Option Refusal
 refused_if_up INACTIVE = None
 refused_if_up (SEARCH count window) = Some CarrierAlreadyUp
-refused_if_up (DECODE count word corrections) = Some CarrierAlreadyUp
+refused_if_up (DECODE r) = Some CarrierAlreadyUp
 
 abbrev pub refused_if_down : Phase → Option Refusal
 refused_if_down INACTIVE = Some CarrierDown
 refused_if_down (SEARCH count window) = None
-refused_if_down (DECODE count word corrections) = None
+refused_if_down (DECODE r) = None
 
 abbrev pub refused_if_none : List Candidate → Option Refusal
 refused_if_none [] = Some NoCandidate

@@ -12,7 +12,8 @@ use Rattle.hold.specs.Candidates.{Candidate, Showing, shown_from, Matches}
 use Rattle.reception.specs.declared.Reason.{Reason}
 use Rattle.reception.specs.declared.Reason.TheVariants.{Closed, Empty, Long, Full, Down}
 use Rattle.reception.specs.declared.Report.{Report}
-use Rattle.reception.specs.Rules.{Settings, Held, room, Phase, INACTIVE, SEARCH, DECODE, State, Event, carrier_up, carrier_down, symbol, release, at_event, made}
+use Rattle.reception.specs.Decoding.{Settings, Held, added, room}
+use Rattle.reception.specs.Rules.{Phase, INACTIVE, SEARCH, DECODE, State, Event, carrier_up, carrier_down, symbol, release, at_event, made}
 use Rattle.reception.specs.Runs.{after_events, reports_of, symbols_in, CarrierStaysUp, CarrierIsUp, Clear, idle, recovery_bits}
 
 -- a candidate that is announced: the one that was open when *closed* was reported
@@ -31,7 +32,7 @@ announced opened (one ∷ more) = announced_by opened one.reason ++ announced op
 abbrev pub is_decode : Phase → Bool
 is_decode INACTIVE = false
 is_decode (SEARCH count window) = false
-is_decode (DECODE count word corrections) = true
+is_decode (DECODE r) = true
 
 -- a release is accepted where a finished candidate waits
 abbrev pub accepted_release : Event → List Candidate → ℕ
@@ -73,6 +74,13 @@ module _ (settings : Settings) (showing : Showing) where
       (hold : Held) (earlier later : List Event) →
       let then = after_events settings showing (made hold) earlier in
       AllByRecursion (λ one. (one.corrections ≤ one.codeblocks) × (one.codeblocks ≤ settings.limit)) (reports_of settings showing then later)
+
+  -- and it is told of as many codeblocks as were held of it
+  abbrev pub AReportTellsTheCodeblocksHeld : Type 0
+  AReportTellsTheCodeblocksHeld =
+      (hold : Held) (earlier : List Event) (e : Event) →
+      let then = after_events settings showing (made hold) earlier in
+      AllByRecursion (λ one. one.codeblocks ≡ added then.held) (at_event settings showing then e).reports
 
   -- so that no call that a receiver makes of its hold is refused
   abbrev pub ACandidateIsOpenJustInDecode : Type 0
@@ -179,5 +187,6 @@ pub record ReceiverPromise (settings : Settings) (showing : Showing) : Type 0 wh
   pub promise : Promise settings showing
   pub calls : CallsRunAsTheirEvents settings showing
   pub counts : CorrectionsAreAmongTheCodeblocks settings showing
+  pub told : AReportTellsTheCodeblocksHeld settings showing
   pub opens : ACandidateIsOpenJustInDecode settings showing
   pub ready : CarrierUpMakesItReady settings showing

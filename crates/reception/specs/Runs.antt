@@ -4,7 +4,8 @@ use Rattle.bch.specs.declared.Mode.{Mode}
 use Rattle.bch.specs.declared.Mode.TheVariants.{Detecting, Correcting}
 use Rattle.hold.specs.Candidates.{Showing}
 use Rattle.reception.specs.declared.Report.{Report}
-use Rattle.reception.specs.Rules.{Settings, Held, State, Event, carrier_up, carrier_down, symbol, release, Phase, INACTIVE, SEARCH, DECODE, at_event}
+use Rattle.reception.specs.Decoding.{Settings, Held}
+use Rattle.reception.specs.Rules.{State, Event, carrier_up, carrier_down, symbol, release, Phase, INACTIVE, SEARCH, DECODE, at_event}
 
 module _ (settings : Settings) (showing : Showing) where
   -- the state after a list of events, and the reports that it makes, in order
@@ -54,9 +55,9 @@ NothingButIdle next count window = (count ≤ 16) × (window % 2 ^ count ≡ idl
 abbrev pub Clear : Phase → Held → Type 0
 Clear INACTIVE h = ⊥
 Clear (SEARCH count window) h = (h.opened ≡ None) × ((next : Bool) × NothingButIdle next count window)
-Clear (DECODE count word corrections) h = ⊥
+Clear (DECODE r) h = ⊥
 
 abbrev pub CarrierIsUp : Phase → Type 0
 CarrierIsUp INACTIVE = ⊥
 CarrierIsUp (SEARCH count window) = Unit {0}
-CarrierIsUp (DECODE count word corrections) = Unit {0}
+CarrierIsUp (DECODE r) = Unit {0}

@@ -5,7 +5,7 @@
 ghost use Rattle.std.specs.Prelude.{◌≡◌, Some};
 ghost use Rattle.hold.specs.Candidates.{Showing};
 ghost use Rattle.reception.specs.Reports.{reason_number, reason_word, report_text};
-ghost use Rattle.reception.specs.Rules.{settings};
+ghost use Rattle.reception.specs.Decoding.{settings};
 ghost use Rattle.reception.specs.Runs.{recovery_bits};
 ghost use Rattle.reception.specs.Promise.{Promise};
 

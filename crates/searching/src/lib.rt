@@ -3,7 +3,7 @@
 #![tactic(auto)]
 
 ghost use Rattle.std.specs.Prelude.{◌≡◌, Bool};
-ghost use Rattle.reception.specs.Rules.{next_count, next_window, start_tolerance, is_start};
+ghost use Rattle.reception.specs.Searching.{next_count, next_window, start_tolerance, is_start};
 ghost use Rattle.searching.specs.Levels.{is_negative};
 
 use bch::Mode;

@@ -7,7 +7,9 @@ use Rattle.bch.specs.Codeblock.{codeblock}
 use Rattle.bch.specs.Reception.{accepted, rejected, syndrome, wrong_place, verdict}
 use Rattle.randomizer.specs.declared.Randomizer.{Randomizer}
 use Rattle.randomizer.specs.Sequence.{sequence_octet}
-use Rattle.reception.specs.Rules.{settings, is_start, Phase, SEARCH, DECODE, INACTIVE, Event, carrier_up, symbol, made}
+use Rattle.reception.specs.Searching.{is_start}
+use Rattle.reception.specs.Decoding.{settings}
+use Rattle.reception.specs.Rules.{Phase, SEARCH, DECODE, INACTIVE, Event, carrier_up, symbol, made}
 use Rattle.reception.specs.Runs.{after_events, idle}
 use Rattle.cltu.specs.Cltu.{tail_sequence, cltu}
 
@@ -29,7 +31,7 @@ CltuOctets n octets = (r : Randomizer) (frame : List ℕ) → length frame ≡ n
 abbrev pub InDecode : Phase → Type 0
 InDecode INACTIVE = ⊥
 InDecode (SEARCH count window) = ⊥
-InDecode (DECODE count word corrections) = Unit {0}
+InDecode (DECODE r) = Unit {0}
 
 -- what a receiver's settings make of a full window
 abbrev pub starts : Mode → ℕ → Bool

@@ -5,7 +5,7 @@ use Rattle.std.proofs.lemmas.Nat.{xor_lt}
 use Rattle.std.proofs.lemmas.Bool.{eq-eqb}
 use Rattle.bch.specs.Polynomial.{◌⊕◌, weight}
 use Rattle.bch.proofs.Weights.{weight_ones}
-use Rattle.reception.specs.Rules.{start_tolerance}
+use Rattle.reception.specs.Searching.{start_tolerance}
 use Rattle.searching.proofs.Window.is_start.Goals as goal
 
 pub returns-then-self-eq16 : goal.returns-then-self-eq16

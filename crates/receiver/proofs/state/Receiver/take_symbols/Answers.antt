@@ -1,7 +1,8 @@
 -- Symbols one after the other. Assumes nothing.
 use Rattle.std.proofs.Common.{◌≡◌, ◌≤◌, Bool, true, false, List, length, refl, ap, ◌∙◌, subst, arith}
 use Rattle.std.specs.Int.{from_bool}
-use Rattle.reception.specs.Rules.{bit_value, Event}
+use Rattle.reception.specs.Symbols.{bit_value}
+use Rattle.reception.specs.Rules.{Event}
 use Rattle.receiver.specs.Events.{reports_at, Ran}
 use Rattle.receiver.proofs.Ran.{ran_then, made_then}
 use Rattle.receiver.proofs.Decided.{one_more_symbol}
