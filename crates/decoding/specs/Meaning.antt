@@ -5,7 +5,7 @@ use Rattle.refusals.specs.declared.Refusal.{Refusal}
 use Rattle.cltu.specs.Limit.{limit_answer}
 use Rattle.hold.specs.declared.Hold.{Ghosts}
 use Rattle.reception.specs.Decoding.{Settings, settings, Held}
-use Rattle.decoding.specs.declared.Settings.{Settings as Set}
+use Rattle.decoding.specs.declared.settings.Settings.{Settings as Set}
 
 -- the settings of the rules
 abbrev pub rules_of : Set → Settings

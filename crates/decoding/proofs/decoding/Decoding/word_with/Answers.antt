@@ -3,7 +3,7 @@ use Rattle.std.proofs.Common.{◌%◌, ◌^◌, ◌∙◌, arith}
 use Rattle.std.proofs.Math.Nat.{mod-eq_of_lt}
 use Rattle.reception.proofs.Pushed.{pushed}
 use Rattle.reception.proofs.Words.{fits_word}
-use Rattle.decoding.proofs.progress.Decoding.word_with.Goals as goal
+use Rattle.decoding.proofs.decoding.Decoding.word_with.Goals as goal
 
 pub returns : goal.returns
 returns c =
