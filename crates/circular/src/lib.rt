@@ -60,7 +60,8 @@ impl<'a, T: Copy> Circle<'a, T> {
     /// Puts a value into the cell whose turn this is. A turn past the last changes nothing.
     #[tactic(auto, using(crate::proofs::Rounds::length_round_from, crate::proofs::Rounds::round_from_set, crate::proofs::Rounds::past))]
     pub fn set(&mut self, turn: usize, value: T)
-        ensures { in_turn self.new ≡ slice_set (in_turn self.old) turn value }
+        ensures cells { in_turn self.new ≡ slice_set (in_turn self.old) turn value }
+        ensures past { length (in_turn self.old) ≤ turn → self.new ≡ self.old }
     {
         if turn < self.cells.len() {
             let place = place_after(self.cells.len(), self.first, turn);
@@ -68,12 +69,13 @@ impl<'a, T: Copy> Circle<'a, T> {
         }
     }
 
-    /// Passes so many cells over: they come last. More than all change nothing.
-    #[tactic(auto, using(crate::proofs::Rounds::round_from_on, crate::proofs::Rounds::past_all))]
+    /// Passes so many cells over: they come last. As many as all, or more, change nothing.
+    #[tactic(auto, using(crate::proofs::Rounds::length_round_from, crate::proofs::Rounds::round_from_on, crate::proofs::Rounds::past_all))]
     pub fn advance(&mut self, turns: usize)
-        ensures { in_turn self.new ≡ round_from turns (in_turn self.old) }
+        ensures cells { in_turn self.new ≡ round_from turns (in_turn self.old) }
+        ensures past { length (in_turn self.old) ≤ turns → self.new ≡ self.old }
     {
-        if turns <= self.cells.len() {
+        if turns < self.cells.len() {
             self.first = place_after(self.cells.len(), self.first, turns);
         }
     }

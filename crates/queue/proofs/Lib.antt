@@ -1,2 +1,3 @@
--- The lemmas that the proofs of this crate share. Assumes nothing.
+-- The lemmas that the proofs of this crate share, and laws for its callers. Assumes nothing.
 mod Turns
+pub mod Laws

@@ -1,5 +1,5 @@
--- The records that wait in a queue, and what a put and a take make of them. Assumes nothing.
-use Rattle.std.specs.Prelude.{◌≡◌, ℕ, ◌<◌, List, [], ◌∷◌, ◌++◌, length, take, Option, slice_get}
+-- What the slots of a queue hold: the records that wait in it, and what is in the free slots. Assumes nothing.
+use Rattle.std.specs.Prelude.{ℕ, List, [], ◌∷◌, ◌++◌, length, take, drop, Option, Some, None, Result, Ok, Err}
 use Rattle.refusals.specs.declared.Refusal.{Refusal}
 use Rattle.refusals.specs.declared.Refusal.TheVariants.{QueueFull, QueueEmpty}
 use Rattle.circular.specs.Turns.{in_turn}
@@ -10,31 +10,46 @@ module _ {X : Type 0} where
   abbrev pub waiting : Queue X → List X
   waiting q = take q.count (in_turn q.slots)
 
-  -- how many records can wait at once
+  -- what the free slots hold, that which is filled next first
+  abbrev pub free : Queue X → List X
+  free q = drop q.count (in_turn q.slots)
+
+  -- how many records can wait at once: the number of slots
   abbrev pub capacity : Queue X → ℕ
   capacity q = length (in_turn q.slots)
 
+-- all that a queue shows of its slots
+pub record Slots (X : Type 0) : Type 0 where
+  pub waiting : List X
+  pub free : List X
+
+module _ {X : Type 0} where
+  abbrev pub slots_of : Queue X → Slots X
+  slots_of q = record { waiting = waiting q; free = free q }
+
+  -- nothing waits
+  abbrev pub all_free : List X → Slots X
+  all_free held = record { waiting = []; free = held }
+
+  -- these records behind those that wait, each in the free slot that was filled next
+  abbrev pub with_behind : List X → Slots X → Slots X
+  with_behind records slots = record { waiting = slots.waiting ++ records; free = drop (length records) slots.free }
+
+  -- the record that waits longest is gone, and its slot, which still holds it, is the last of the free ones
+  abbrev pub without_oldest : Slots X → Slots X
+  without_oldest slots = record { waiting = drop 1 slots.waiting; free = slots.free ++ take 1 slots.waiting }
+
   -- the record that waits longest, or none
   abbrev pub front : List X → Option X
-  front records = slice_get records 0
+  front [] = None
+  front (oldest ∷ later) = Some oldest
 
-  -- what a put that is accepted found and leaves
-  pub record Put (before : Queue X) (x : X) (after : Queue X) : Type 0 where
-    pub room : length (waiting before) < capacity before
-    pub behind : waiting after ≡ waiting before ++ x ∷ []
+  -- a take, by the records that wait
+  abbrev pub take_answer : List X → Result X Refusal
+  take_answer [] = Err QueueEmpty
+  take_answer (oldest ∷ later) = Ok oldest
 
-  -- what a put that is refused found and leaves
-  pub record RefusedFull (before after : Queue X) (why : Refusal) : Type 0 where
-    pub reason : why ≡ QueueFull
-    pub full : length (waiting before) ≡ capacity before
-    pub same : after ≡ before
-
-  -- what a take that is accepted found and leaves
-  pub record Taken (before : Queue X) (x : X) (after : Queue X) : Type 0 where
-    pub oldest : waiting before ≡ x ∷ waiting after
-
-  -- what a take that is refused found and leaves
-  pub record RefusedEmpty (before after : Queue X) (why : Refusal) : Type 0 where
-    pub reason : why ≡ QueueEmpty
-    pub empty : waiting before ≡ []
-    pub same : after ≡ before
+  -- a put, by what the free slots hold
+  abbrev pub put_answer : List X → Result (Unit {0}) Refusal
+  put_answer [] = Err QueueFull
+  put_answer (next ∷ further) = Ok tt

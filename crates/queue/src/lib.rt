@@ -1,9 +1,9 @@
 //! One queue in lent memory, for any plain record: no allocation, and constant time for each call.
 #![tactic(auto)]
 
-ghost use Rattle.std.specs.Prelude.{◌≡◌, ◌≤◌, [], length, MatchResult};
+ghost use Rattle.std.specs.Prelude.{◌≡◌, ◌+◌, [], ◌∷◌, length, OnOk, OnErr};
 ghost use Rattle.std.specs.Option.{option_copied};
-ghost use Rattle.queue.specs.Waiting.{waiting, capacity, front, Put, RefusedFull, Taken, RefusedEmpty};
+ghost use Rattle.queue.specs.Waiting.{waiting, free, capacity, slots_of, all_free, with_behind, without_oldest, front, put_answer, take_answer};
 
 use circular::Circle;
 use refusals::Refusal;
@@ -13,10 +13,9 @@ mod slots;
 pub use slots::Queue;
 
 impl<'a, T: Copy> Queue<'a, T> {
-    /// A queue over these slots in which nothing waits. What the slots hold does not show.
+    /// A queue over these slots, in which nothing waits: all of them are free, and hold what they held.
     pub fn new(slots: &'a mut [T]) -> Queue<'a, T>
-        ensures empty { waiting result ≡ [] }
-        ensures capacity { capacity result ≡ length slots.old }
+        ensures { slots_of result ≡ all_free slots.old }
     {
         Queue {
             slots: Circle::new(slots),
@@ -24,24 +23,24 @@ impl<'a, T: Copy> Queue<'a, T> {
         }
     }
 
-    /// How many records can wait at once: the number of slots.
+    /// How many records can wait at once: the number of slots, those in which a record waits and the free ones.
+    #[tactic(auto, using(crate::proofs::Laws::every_slot))]
     pub fn capacity(&self) -> usize
-        ensures { result ≡ capacity self.now }
+        ensures slots { result ≡ capacity self.now }
+        ensures every { length (waiting self.now) + length (free self.now) ≡ result }
     {
         self.slots.len()
     }
 
     /// How many records wait.
-    #[tactic(auto, using(crate::proofs::Turns::length_waiting))]
+    #[tactic(auto, using(crate::proofs::Laws::length_waiting))]
     pub fn len(&self) -> usize
-        ensures records { result ≡ length (waiting self.now) }
-        ensures within { result ≤ capacity self.now }
+        ensures { result ≡ length (waiting self.now) }
     {
         self.count
     }
 
     /// The record that waits longest, which stays. `None` where none waits.
-    #[tactic(auto, using(crate::proofs::Turns::oldest_in_front, crate::proofs::Turns::none_in_front))]
     pub fn front(&self) -> Option<&T>
         ensures { option_copied result ≡ front (waiting self.now) }
     {
@@ -51,12 +50,13 @@ impl<'a, T: Copy> Queue<'a, T> {
         self.slots.get(0)
     }
 
-    /// Puts a record behind all that wait. Refused with `QueueFull` exactly where as many records wait
-    /// as there are slots, and then the queue is as it was.
-    #[tactic(auto, using(crate::proofs::Turns::put_behind, crate::proofs::Turns::length_waiting))]
+    /// Puts a record behind all that wait, into a free slot. Refused with `QueueFull` exactly where no slot is
+    /// free, and then the queue and the memory under it are as they were.
+    #[tactic(auto, using(crate::proofs::Turns::put_behind, crate::proofs::Laws::length_waiting))]
     pub fn put(&mut self, record: T) -> Result<(), Refusal>
-        ensures answer { MatchResult result (λ _. Put self.old «record» self.new) (RefusedFull self.old self.new) }
-        ensures capacity { capacity self.new ≡ capacity self.old }
+        ensures answer { result ≡ put_answer (free self.old) }
+        ensures accepted { OnOk result (slots_of self.new ≡ with_behind («record» ∷ []) (slots_of self.old)) }
+        ensures refused { OnErr result (self.new ≡ self.old) }
     {
         let waiting = self.len();
         if waiting == self.capacity() {
@@ -67,17 +67,17 @@ impl<'a, T: Copy> Queue<'a, T> {
         Ok(())
     }
 
-    /// Takes the record that waits longest. Refused with `QueueEmpty` exactly where none waits, and
-    /// then the queue is as it was.
-    #[tactic(auto, using(crate::proofs::Turns::oldest_first, crate::proofs::Turns::as_many))]
+    /// Takes the record that waits longest, and frees its slot. Refused with `QueueEmpty` exactly where none
+    /// waits, and then the queue and the memory under it are as they were.
+    #[tactic(auto, using(crate::proofs::Turns::taken_off))]
     pub fn take(&mut self) -> Result<T, Refusal>
-        ensures answer { MatchResult result (λ x. Taken self.old x self.new) (RefusedEmpty self.old self.new) }
-        ensures capacity { capacity self.new ≡ capacity self.old }
+        ensures answer { result ≡ take_answer (waiting self.old) }
+        ensures accepted { OnOk result (slots_of self.new ≡ without_oldest (slots_of self.old)) }
+        ensures refused { OnErr result (self.new ≡ self.old) }
     {
-        if self.count == 0 {
+        let Some(oldest) = self.front().copied() else {
             return Err(Refusal::QueueEmpty);
-        }
-        let oldest = *self.slots.get(0).unwrap();
+        };
         self.slots.advance(1);
         self.count -= 1;
         Ok(oldest)
@@ -117,6 +117,21 @@ mod tests {
             queue.put(numbered(number))?;
         }
         assert!(rt; queue.len() == 3 && queue.capacity() == 3);
+        Ok(())
+    }
+
+    // A slot keeps its record until another is put there, and a refused put changes none.
+    #[test]
+    fn memory_under_the_queue(rt: HostRuntime) -> Result<(), Fail> {
+        let mut slots = [0; 3];
+        let mut queue = Queue::new(&mut slots);
+        for record in 1..4 {
+            queue.put(record)?;
+        }
+        assert!(rt; queue.put(4) == Err(Refusal::QueueFull));
+        assert!(rt; queue.take()? == 1 && queue.take()? == 2);
+        queue.put(5)?;
+        assert!(rt; slots == [5, 2, 3]);
         Ok(())
     }
 
