@@ -1,5 +1,4 @@
 -- What the proofs of several functions share. Assumes nothing.
 pub mod Queues
 pub mod Ran
-pub mod Few
 pub mod Decided

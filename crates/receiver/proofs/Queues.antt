@@ -1,17 +1,20 @@
 -- Reports that go into a queue, and those that are lost. Assumes nothing.
-use Rattle.std.proofs.Common.{◌≡◌, ℕ, zero, suc, ◌+◌, ◌-◌, ◌≤◌, min, List, [], ◌∷◌, ◌++◌, length, take, sym, refl, ap, ◌∙◌, ap₂, append_assoc, append-nil, arith}
+use Rattle.std.proofs.Common.{◌≡◌, ℕ, zero, suc, ◌+◌, ◌-◌, ◌≤◌, min, List, [], ◌∷◌, ◌++◌, length, take, drop, sym, refl, ap, ◌∙◌, ap₂, append_assoc, append-nil, arith}
 use lib.Seq.{take-nil}
-use Rattle.std.proofs.lemmas.List.{length-append, length-take}
+use Rattle.std.proofs.lemmas.List.{length-append, length-take, length-drop, drop-drop}
 use Rattle.queue.specs.declared.slots.Queue.{Queue}
-use Rattle.queue.specs.Waiting.{waiting}
+use Rattle.queue.specs.Waiting.{Slots, slots_of, with_behind}
 use Rattle.reception.specs.declared.Report.{Report}
 use Rattle.reception.specs.Calls.{lost_after}
 use Rattle.receiver.specs.Meaning.{free_slots}
 use Rattle.receiver.specs.Events.{Queued}
 
 -- none
+none_behind : (n : ℕ) (s : Slots Report) → s ≡ with_behind (take n []) s
+none_behind n s = sym (ap (λ l. with_behind l s) (take-nil n) ∙ ap (λ l. record { waiting = l; free = s.free }) (append-nil s.waiting))
+
 pub queued_none : (q : Queue Report) → Queued [] q q
-queued_none q = record { waits = sym (ap (λ l. waiting q ++ l) (take-nil (free_slots q)) ∙ append-nil (waiting q)); capacity = refl }
+queued_none q = none_behind (free_slots q) (slots_of q)
 
 pub lost_none : (free lost : ℕ) → lost ≤ 65535 → lost ≡ lost_after free lost []
 lost_none free lost few = omega arith
@@ -31,18 +34,20 @@ take_append (suc n) (x ∷ xs) ys = ap (λ l. x ∷ l) (take_append n xs ys ∙ 
     less : (n m : ℕ) → n - m ≡ suc n - suc m
     less n m = omega arith
 
+both_behind : (xs ys : List Report) (s : Slots Report) → with_behind ys (with_behind xs s) ≡ with_behind (xs ++ ys) s
+both_behind xs ys s =
+    ap₂ (λ w f. record { waiting = w; free = f }) (append_assoc s.waiting xs ys)
+    (drop-drop (length ys) (length xs) s.free ∙ ap (λ n. drop n s.free) (sym (length-append xs ys)))
+
 pub fewer_slots : (xs : List Report) (q later : Queue Report) → Queued xs q later → free_slots later ≡ free_slots q - length xs
 fewer_slots xs q later w =
-    let long = ap length w.waits ∙ length-append (waiting q) (take (free_slots q) xs) ∙ ap (λ n. length (waiting q) + n) (length-take (free_slots q) xs) in
-    omega (arith, w.capacity, long)
+    omega (arith, ap (λ s. length s.free) w, length-drop (length (take (free_slots q) xs)) (slots_of q).free, length-take (free_slots q) xs)
 
 pub queued_then : (xs ys : List Report) (q mid later : Queue Report) → Queued xs q mid → Queued ys mid later → Queued (xs ++ ys) q later
 queued_then xs ys q mid later first second =
-    record {
-      waits = second.waits ∙ ap₂ (λ (w : List Report) (n : ℕ). w ++ take n ys) first.waits (fewer_slots xs q mid first)
-          ∙ append_assoc (waiting q) (take (free_slots q) xs) (take (free_slots q - length xs) ys) ∙ ap (λ l. waiting q ++ l) (sym (take_append (free_slots q) xs ys));
-      capacity = second.capacity ∙ first.capacity;
-    }
+    second ∙ ap₂ (λ n s. with_behind (take n ys) s) (fewer_slots xs q mid first) first
+    ∙ both_behind (take (free_slots q) xs) (take (free_slots q - length xs) ys) (slots_of q)
+    ∙ ap (λ l. with_behind l (slots_of q)) (sym (take_append (free_slots q) xs ys))
 
 pub lost_then : (free left lost : ℕ) (xs ys : List Report) → left ≡ free - length xs → lost_after left (lost_after free lost xs) ys ≡ lost_after free lost (xs ++ ys)
 lost_then free left lost xs ys e = by (length xs) (length ys) (length (xs ++ ys)) (length-append xs ys) e

@@ -14,5 +14,8 @@ pub(crate) enum Phase {
 pub(crate) enum Event {
     CarrierUp,
     CarrierDown,
+    /// A call with symbols begins, with any number of them, also none.
+    Symbols,
+    /// A symbol of such a call.
     Symbol(bool),
 }

@@ -6,7 +6,7 @@ use Rattle.reception.specs.Rules.{Event}
 use Rattle.receiver.specs.Events.{reports_at, Ran}
 use Rattle.receiver.proofs.Ran.{ran_then, made_then}
 use Rattle.receiver.proofs.Decided.{one_more_symbol}
-use Rattle.receiver.proofs.state.Receiver.take_symbols.Goals as goal
+use Rattle.receiver.proofs.receiver.Receiver.take_symbols.Goals as goal
 
 -- one report or none
 counted : (made : Bool) → (from_bool made ≡ bit_value made) × (from_bool made ≤ 1)

@@ -3,7 +3,7 @@ use Rattle.std.proofs.Common.{◌≡◌, ◌≤◌, length, take}
 use Rattle.reception.specs.Calls.{symbol_events}
 use Rattle.searching.specs.Symbols.{decisions}
 use Rattle.receiver.specs.Events.{reports_at, Ran}
-use Rattle.receiver.proofs.state.Receiver.take_symbols.Given as goal
+use Rattle.receiver.proofs.receiver.Receiver.take_symbols.Given as goal
 
 abbrev pub invariant-loop-symbol : goal.invariant-loop-symbol
 invariant-loop-symbol g l =
