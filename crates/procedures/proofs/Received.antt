@@ -16,7 +16,7 @@ use Rattle.reception.specs.Promise.{IdleOrNothing, CarrierStaysDown, Transmissio
 use Rattle.reception.proofs.Brings.{after_append, new_append}
 use Rattle.reception.proofs.Decoding.{length_shown_from}
 use Rattle.reception.proofs.Finished.{run_keeps}
-use Rattle.reception.proofs.Kept.{none_open_in_inactive}
+use Rattle.reception.proofs.Kept.{KeptState, run_keeps as kept_on, kept_from_making, none_open_in_inactive}
 use Rattle.reception.proofs.Sent.{idle_gap, away_comes, one_well_sent, under_filled, shown_back}
 use Rattle.reception.proofs.Undamaged.{length_blocks, within_undamaged}
 use Rattle.procedures.specs.Stretch.{Parameters, frames_in}
@@ -78,14 +78,15 @@ module _ (settings : Settings) (showing : Showing) (randomizer : Randomizer) whe
       let gap = idle_gap settings showing t.gap h none sent.0 in
       let there = run s t.gap in
       let none-there = ap (λ u. u.held.opened) gap.after ∙ gap.opened in
-      let kept = room_left settings showing s t.gap none none-there in
+      let kept-here : KeptState settings.limit s = (none, omega arith) in
+      let kept = room_left settings showing s t.gap kept-here none none-there in
       let well = well_sent there t frame sent.1 sent.2 sent.3 sent.4 within.0 within.1 within.2 (omega (arith, kept, ap finished_codeblocks gap.new)) in
       let one = one_well_sent settings showing randomizer there gap.next gap.count gap.window gap.hold t gap.after gap.opened gap.calm well in
-      let new = one.new ∙ ap (λ f. shown f ∷ []) sent.1 in
-      let less = room_left settings showing there t.events none-there (ap (λ u. u.held.opened) one.after ∙ one.opened) in
+      let new = one.goes.news ∙ ap (λ f. shown f ∷ []) sent.1 in
+      let less = room_left settings showing there t.events (kept_on settings showing s t.gap kept-here) none-there (ap (λ u. u.held.opened) one.goes.after ∙ one.opened) in
       let more = all_in frames ts behind one.hold one.opened sent.5 idle within.3
-      (omega (arith, kept, ap finished_codeblocks gap.new, less, ap finished_codeblocks new, codeblocks_shown frame, ap (λ u. room u.held) one.after)) in
-      let whole = joined frames frame s t.gap t.events (events_of ts ++ behind) there one.hold refl gap.new one.after new more in
+      (omega (arith, kept, ap finished_codeblocks gap.new, less, ap finished_codeblocks new, codeblocks_shown frame, ap (λ u. room u.held) one.goes.after)) in
+      let whole = joined frames frame s t.gap t.events (events_of ts ++ behind) there one.hold refl gap.new one.goes.after new more in
       subst (λ es. StretchIn (frame ∷ frames) s es) (sym (append_assoc t.gap (t.events ++ events_of ts) behind ∙ ap (λ l. t.gap ++ l) (append_assoc t.events (events_of ts) behind))) whole
 
   as_filled : (frames : List (List ℕ)) → FramesWithin settings.limit frames → Matches showing randomizer → map shown frames ≡ map filled frames
@@ -103,7 +104,7 @@ module _ (settings : Settings) (showing : Showing) where
       let at = ap (λ p. (at_up p then.held).after) inactive in
       let whole = subst (λ es. StretchIn settings showing r (frames_in writings) (state (SEARCH 0 0) then.held) es) (sym parts.whole) inside in
       let new = ap (λ p. announced then.held.opened (at_up p then.held).reports ++ new_candidates settings showing (at_up p then.held).after later) inactive ∙ whole.new in
-      (subst (λ u. Clear (after_events settings showing u later).phase (after_events settings showing u later).held) (sym at) whole.clear, record { shown = new; filled_frames = λ matches. new ∙ as_filled settings showing r (frames_in writings) within matches; added = run_keeps settings showing then (carrier_up ∷ later) })
+      (subst (λ u. Clear (after_events settings showing u later).phase (after_events settings showing u later).held) (sym at) whole.clear, record { shown = new; filled_frames = λ matches. new ∙ as_filled settings showing r (frames_in writings) within matches; added = run_keeps settings showing then (carrier_up ∷ later) (kept_from_making settings showing hold earlier) })
 
 -- ---- stretch after stretch
 
@@ -128,7 +129,7 @@ module _ (settings : Settings) (showing : Showing) where
       ((after_events settings showing (state p h) (carrier_down ∷ away)).phase ≡ INACTIVE) × (new_candidates settings showing (state p h) (carrier_down ∷ away) ≡ [])
   comes_down INACTIVE h away clear down = absurd clear
   comes_down (SEARCH count window) h away clear down = let w = away_comes settings showing away h down in (ap (λ u. u.phase) w.after, w.new)
-  comes_down (DECODE count word k) h away clear down = absurd clear
+  comes_down (DECODE r) h away clear down = absurd clear
 
   all_received : (parameters : Parameters) (stretches : List ReceivedStretch) (hold : Held) (earlier : List Event) →
       let then = after_events settings showing (made hold) earlier in
@@ -153,7 +154,7 @@ module _ (settings : Settings) (showing : Showing) where
       let new = new_append settings showing up down then ∙ ap₂ ◌++◌ own.1.shown gone.1 ∙ append-nil (map (shown settings showing r) frames) in
       let none = none_open_in_inactive settings showing hold earlier inactive in
       let none-next = none_open_in_inactive settings showing hold (earlier ++ all) there-too in
-      let left = room_left settings showing then all none (ap (λ u. u.held.opened) (sym next) ∙ none-next) in
+      let left = room_left settings showing then all (kept_from_making settings showing hold earlier) none (ap (λ u. u.held.opened) (sym next) ∙ none-next) in
       let rest = all_received parameters more hold (earlier ++ all) there-too brought.3 (within_back settings.limit frames others within)
       (omega (arith, left, ap finished_codeblocks new, codeblocks_of_shown r frames, codeblocks_of_both frames others, ap (λ u. room u.held) next)) in
       let behind = flat_map events_of_stretch more in (
@@ -164,7 +165,7 @@ module _ (settings : Settings) (showing : Showing) where
   pub a_session_is_received : ASessionIsReceived settings showing
   a_session_is_received parameters stretches hold earlier inactive brought within space =
       let all = all_received parameters stretches hold earlier inactive brought within space in
-      (all.0, record { shown = all.1; filled_frames = λ matches. all.1 ∙ as_filled settings showing parameters.randomizer (frames_of stretches) within matches; added = run_keeps settings showing (after_events settings showing (made hold) earlier) (flat_map events_of_stretch stretches) })
+      (all.0, record { shown = all.1; filled_frames = λ matches. all.1 ∙ as_filled settings showing parameters.randomizer (frames_of stretches) within matches; added = run_keeps settings showing (after_events settings showing (made hold) earlier) (flat_map events_of_stretch stretches) (kept_from_making settings showing hold earlier) })
 
 pub session_promise : SessionPromise
 session_promise = record { cltus = a_stretch_is_cltus_with_idle_between; stretch = a_stretch_is_received; session = a_session_is_received }
