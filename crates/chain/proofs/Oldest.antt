@@ -2,12 +2,11 @@
 use Rattle.std.proofs.Common.{◌≡◌, ℕ, zero, suc, ◌+◌, ◌-◌, ◌*◌, ◌/◌, ◌%◌, ◌<◌, ◌≤◌, true, eqb, List, [], length, get_or, take, drop, set, Ok, sym, refl, ap, ◌∙◌, arith}
 use Rattle.std.proofs.lemmas.List.{length-take-le, get_or-take, get_or-map}
 use Rattle.std.proofs.lemmas.Bool.{and_parts, eqb-true}
-use Rattle.hold.specs.Candidates.{oldest_octet, stretch_answer, after_stretch}
+use Rattle.hold.specs.Candidates.{stretch_answer, after_stretch}
 use Rattle.ring.specs.declared.cells.Cell.{Cell as Room}
 use Rattle.ring.specs.Cells.{first_count}
 use Rattle.ring.specs.Held.{oldest_of, Oldest}
 use Rattle.ring.proofs.Groups.{get_or_octets_of, length_grouped, First}
-use Rattle.ring.proofs.Waiting.{octet_inside}
 use Rattle.ring.proofs.Oldest.{few, first, length_first, is_oldest, stretch_answered_first, short_first, all_read_first, some_wait, read_more}
 use Rattle.chain.specs.declared.cells.Cell.{Cell}
 use Rattle.chain.specs.declared.cells.Chain.{Chain}
@@ -118,9 +117,6 @@ module _ (chain : Chain) where
         (sym (get_or-take c (used_rooms chain) (place / 7) no_room before
         ∙ get_or-map (λ node. node.room) (used_nodes chain) (place / 7) no_node no_room (omega (arith, length_nodes cells chain.used chain.first))))
         ∙ sym (ap (λ fs. get_or (oldest_of fs) place 0) oldest.candidates ∙ get_or_octets_of (take c (used_rooms chain)) place no_room (omega (arith, length_oldest some, length-take-le c (used_rooms chain) oldest.within)))
-
-    pub octet_answered : oldest_octet (finished_in chain) place ≡ Ok (get_or (cell_at cells (after (place / 7) cells chain.first)).octets (place % 7) 0)
-    octet_answered = octet_inside (finished_in chain) place h ∙ ap Ok (sym octet_value)
 
 -- one octet more of a stretch
 pub octet_read : (chain : Chain) (memory : List ℕ) (place i cell : ℕ) → take i memory ≡ take i (drop place (oldest_of (finished_in chain))) → cell ≡ after ((place + i) / 7) chain.cells.now chain.first →

@@ -5,9 +5,11 @@ use Rattle.std.proofs.lemmas.List.{take_all, map-append, flat_map_more, get_or-s
 use Rattle.std.proofs.lemmas.Bool.{cond-false, ne_eqb, and_from, and_parts, eq-eqb, eqb-true}
 use Rattle.hold.specs.Candidates.{Candidate, free_space, add_answer, after_add, finish_answer, open_after_finish, finished_after_finish}
 use Rattle.ring.specs.declared.cells.Cell.{Cell as Room}
-use Rattle.ring.specs.Cells.{octets_in, octets_of, first_count, grouped, parted, added, unfinished_in, plain_showing}
+use Rattle.ring.specs.Cells.{octets_in, octets_of, first_count, grouped, parted, added, unfinished_in}
 use Rattle.ring.specs.Sound.{length_octets_of, parts as part_of}
-use Rattle.ring.proofs.Groups.{shown_plain, octets_in_seven, Behind, behind}
+use Rattle.hold.specs.Plain.{plain_showing}
+use Rattle.hold.proofs.Plain.{shown_plain}
+use Rattle.ring.proofs.Groups.{octets_in_seven, Behind, behind}
 use Rattle.ring.specs.Held.{Open}
 use Rattle.ring.proofs.Oldest.{finish_answered, none_open}
 use Rattle.chain.specs.declared.cells.Cell.{Cell}

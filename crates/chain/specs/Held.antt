@@ -42,7 +42,6 @@ module _ (chain : Chain) where
   sound_chain =
       record {
         within = omega (arith, finished_is_used, open_is_added, chain.chained.within);
-        most = chain.chained.most;
         finished_whole = finished_whole_grouped chain.waiting (used_rooms chain) chain.chained.whole;
         open_whole = open_whole_unfinished chain.unfinished (rooms (nodes (added chain.unfinished) chain.cells.now chain.first_open)) fits;
       }

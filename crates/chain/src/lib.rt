@@ -5,8 +5,9 @@
 ghost use Rattle.std.specs.Prelude.{◌≡◌, ℕ, ◌+◌, ◌-◌, ◌*◌, ◌/◌, ◌<◌, ◌≤◌, ◌==◌, cond, min, [], length, Some as present, None as absent, Ok, MatchResult, slice_index};
 ghost use Rattle.randomizer.specs.declared.Randomizer.TheVariants.{Off};
 ghost use Rattle.hold.specs.Candidates.{Matches, finished_codeblocks, open_codeblocks, oldest_octet, stretch_answer, after_stretch};
-ghost use Rattle.ring.specs.Cells.{plain_showing, added};
-ghost use Rattle.ring.specs.Held.{oldest_of, shows_apart, Open, NoneOpen, NoneWaits, Oldest};
+ghost use Rattle.hold.specs.Plain.{plain_showing, plain_shows_apart};
+ghost use Rattle.ring.specs.Cells.{added};
+ghost use Rattle.ring.specs.Held.{oldest_of, Open, NoneOpen, NoneWaits, Oldest};
 ghost use Rattle.chain.specs.Links.{LinkInTurn, cell_at, after, filled, noted, moved_behind, first_behind};
 ghost use Rattle.chain.specs.Held.{capacity_of, used_rooms, finished_in, opened_in, sound_chain};
 
@@ -83,12 +84,13 @@ impl<'a> Chain<'a> {
     /// A chain of these cells, or of the first 65,535 of them where there are more, in which no candidate
     /// is open and none waits. What the cells held before does not show. It refuses nothing: with no
     /// cells at all it is a chain with no space.
-    #[tactic(auto, using(crate::proofs::Begin::new_chained, crate::proofs::Begin::few_taken, ring::proofs::Groups::shows_plainly))]
+    #[tactic(auto, using(crate::proofs::Begin::new_chained, crate::proofs::Begin::few_taken, hold::proofs::Plain::plain_matches))]
     pub fn new(cells: &'a mut [Cell]) -> Chain<'a>
-        ensures capacity { capacity_of result ≡ min (length cells.old) 65535 }
-        ensures finished { finished_in result ≡ [] }
-        ensures opened { opened_in result ≡ absent }
-        ensures matches { Matches plain_showing Off }
+        ensures capacity { ⟦<Chain<'static> as Hold>⟧.capacity result ≡ min (length cells.old) 65535 }
+        ensures finished { ⟦<Chain<'static> as Hold>⟧.finished result ≡ [] }
+        ensures opened { ⟦<Chain<'static> as Hold>⟧.opened result ≡ absent }
+        ensures showing { ⟦<Chain<'static> as Hold>⟧.showing ≡ plain_showing }
+        ensures matches { Matches ⟦<Chain<'static> as Hold>⟧.showing Off }
     {
         let most = cells.len().min(MOST_CELLS);
         let cells = &mut cells[..most];
@@ -158,17 +160,6 @@ impl<'a> Chain<'a> {
         place
     }
 
-    // The octet at a place of the oldest finished candidate.
-    #[tactic(auto, using(crate::proofs::Oldest::links_below, crate::proofs::Oldest::octet_cell_below, crate::proofs::Oldest::octet_value, crate::proofs::Oldest::octet_answered))]
-    fn octet(&self, place: usize) -> u8
-        requires { place < length (oldest_of (finished_in self.now)) }
-        ensures value { result ≡ slice_index (oldest_of (finished_in self.now)) place }
-        ensures answer { oldest_octet (finished_in self.now) place ≡ Ok result }
-    {
-        let cell = self.cell_after(place / 7);
-        self.cells[cell as usize].octets[place % 7]
-    }
-
     // In which cell the octet stands that follows the one at a place of the oldest finished candidate, if
     // that one stands in this cell.
     #[tactic(auto, using(crate::proofs::Oldest::next_octet, crate::proofs::Oldest::octet_cell_below))]
@@ -210,7 +201,7 @@ impl<'a> Hold for Chain<'a> {
 
     ghost showing = { plain_showing };
 
-    ghost apart = { shows_apart };
+    ghost apart = { plain_shows_apart };
 
     ghost sound = { λ chain. sound_chain chain };
 
@@ -294,14 +285,6 @@ impl<'a> Hold for Chain<'a> {
 
     fn oldest_length(&self) -> Result<usize, Refusal> {
         Ok(7 * self.oldest()?)
-    }
-
-    fn oldest_octet(&self, place: usize) -> Result<u8, Refusal> {
-        let codeblocks = self.oldest()?;
-        if place >= 7 * codeblocks {
-            return Err(Refusal::PastCandidateEnd);
-        }
-        Ok(self.octet(place))
     }
 
     fn read_oldest(&self, place: usize, memory: &mut [u8]) -> Result<(), Refusal> {

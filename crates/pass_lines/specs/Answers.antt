@@ -2,7 +2,7 @@
 use Rattle.std.specs.Prelude.{◌≡◌, ℕ, Bool, List, [], ◌∷◌, ◌++◌, None, codes}
 use Rattle.std.specs.List.{flat_map}
 use Rattle.bch.specs.declared.Mode.TheVariants.{Correcting}
-use Rattle.ring.specs.Cells.{plain_showing}
+use Rattle.hold.specs.Plain.{plain_showing}
 use Rattle.hold.specs.Candidates.{Showing}
 use Rattle.reception.specs.Decoding.{Settings, settings, Held}
 use Rattle.reception.specs.Rules.{made, Event, carrier_up, carrier_down}

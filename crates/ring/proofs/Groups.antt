@@ -3,20 +3,9 @@ use Rattle.std.proofs.Common.{◌≡◌, ℕ, zero, suc, ◌-◌, ◌*◌, ◌/�
 use Rattle.std.proofs.lemmas.Grind.{common_steps}
 use Rattle.std.proofs.lemmas.List.{length-append, length-drop, take_all, drop_all, drop_more, take-append-le, drop-append-le}
 use Rattle.std.proofs.lemmas.Bool.{and_from, le-leb, eq-eqb, eqb-true}
-use lib.Bits.{xor_zero_r}
-use Rattle.randomizer.specs.declared.Randomizer.TheVariants.{Off}
-use Rattle.hold.specs.Candidates.{Matches, shown_from}
 use Rattle.ring.specs.declared.cells.Cell.{Cell}
-use Rattle.ring.specs.Cells.{octets_in, octets_of, first_count, grouped, parted, plain_showing}
+use Rattle.ring.specs.Cells.{octets_in, octets_of, first_count, grouped, parted}
 use Rattle.ring.specs.Sound.{Parts, parts}
-
--- an octet shows as it is added, so that a ring matches a sender that does not randomize
-pub shows_plainly : Matches plain_showing Off
-shows_plainly place x h = xor_zero_r x
-
-pub shown_plain : (place : ℕ) (xs : List ℕ) → shown_from plain_showing place xs ≡ xs
-shown_plain place [] = refl
-shown_plain place (x ∷ xs) = ap (λ l. x ∷ l) (shown_plain (suc place) xs)
 
 pub octets_in_seven : (cell : Cell) → length cell.octets ≡ 7 → octets_in cell ≡ cell.octets
 octets_in_seven cell seven = grind (arith, common_steps, drop_more, drop_all)

@@ -7,7 +7,7 @@ use Rattle.ring.specs.declared.cells.Cell.{Cell}
 use Rattle.ring.specs.Cells.{first_count, grouped, parted}
 use Rattle.ring.specs.Held.{oldest_of, Oldest}
 use Rattle.ring.specs.Sound.{length_octets_take}
-use Rattle.ring.proofs.Waiting.{released, whole_length, octet_past, stretch_inside, stretch_read, stretch_past, kept_past}
+use Rattle.ring.proofs.Waiting.{released, whole_length, stretch_inside, stretch_read, stretch_past, kept_past}
 use Rattle.ring.proofs.Groups.{length_grouped, few_parts, First, first_of}
 
 -- what finishing makes of a candidate that is not empty
@@ -57,7 +57,6 @@ module _ (waiting used : ℕ) (cells : List Cell) (long : length cells ≡ used)
           octets = octets;
           answer = whole_length finished waits ∙ ap Ok octets;
           released = released finished waits;
-          past = λ place h. octet_past finished place waits (omega arith);
           stretch_past = λ place memory h. stretch_past finished place memory waits (omega arith);
           kept_past = λ place memory h. kept_past finished place memory waits (omega arith);
         }

@@ -4,13 +4,12 @@ use Rattle.std.proofs.lemmas.List.{length-take-le, length-drop, get_or-take, tak
 use Rattle.circular.specs.Circle.{round_from}
 use Rattle.circular.proofs.Rounds.{length_round_from}
 use Rattle.std.proofs.lemmas.Option.{get_or_from_slice_get}
-use Rattle.hold.specs.Candidates.{finished_codeblocks, open_codeblocks, oldest_octet, stretch_answer, after_stretch, after_release}
+use Rattle.hold.specs.Candidates.{finished_codeblocks, open_codeblocks, stretch_answer, after_stretch, after_release}
 use Rattle.ring.specs.declared.cells.Cell.{Cell}
 use Rattle.ring.specs.declared.cells.Ring.{Ring}
 use Rattle.ring.specs.Cells.{octets_of, first_count, grouped, parted, added, unfinished_in}
 use Rattle.ring.specs.Held.{in_turn, capacity_of, used_cells, finished_in, opened_in, oldest_of, Oldest}
 use Rattle.ring.specs.Sound.{finished_codeblocks_used, open_codeblocks_added}
-use Rattle.ring.proofs.Waiting.{octet_inside}
 use Rattle.ring.proofs.Oldest.{few, first, length_first, is_oldest, stretch_answered_first, short_first, all_read_first, some_wait}
 use Rattle.ring.proofs.Groups.{get_or_octets_of, length_grouped, First}
 
@@ -82,10 +81,6 @@ module _ (ring : Ring) where
   pub octet_value : (place : ℕ) (cell : Cell) → place < length (oldest_of (finished_in ring)) → slice_get (in_turn ring) (place / 7) ≡ Some cell →
       get_or cell.octets (place % 7) 0 ≡ get_or (oldest_of (finished_in ring)) place 0
   octet_value place cell h is = octet_at (some_wait ring.waiting (used_cells ring) (omega arith)) place cell h is
-
-  pub octet_answered : (place : ℕ) (cell : Cell) → place < length (oldest_of (finished_in ring)) → slice_get (in_turn ring) (place / 7) ≡ Some cell →
-      oldest_octet (finished_in ring) place ≡ Ok (get_or cell.octets (place % 7) 0)
-  octet_answered place cell h is = octet_inside (finished_in ring) place h ∙ ap Ok (sym (octet_value place cell h is))
 
   pub turn_below : (place : ℕ) → place < length (oldest_of (finished_in ring)) → place / 7 < capacity_of ring
   turn_below place h =

@@ -1,8 +1,8 @@
 -- What is answered where a finished candidate waits, by the length of the oldest. Assumes nothing.
-use Rattle.std.proofs.Common.{◌≡◌, ℕ, ◌-◌, ◌<◌, ◌≤◌, List, length, get_or, take, drop, Ok, Err, arith}
+use Rattle.std.proofs.Common.{◌≡◌, ℕ, ◌-◌, ◌<◌, ◌≤◌, List, length, take, drop, Ok, Err, arith}
 use Rattle.std.proofs.lemmas.Grind.{common_steps}
 use Rattle.refusals.specs.declared.Refusal.TheVariants.{PastCandidateEnd}
-use Rattle.hold.specs.Candidates.{Candidate, oldest_length, oldest_octet, stretch_answer, after_stretch, release_answer}
+use Rattle.hold.specs.Candidates.{Candidate, oldest_length, stretch_answer, after_stretch, release_answer}
 use Rattle.ring.specs.Held.{oldest_of}
 
 pub released : (fs : List Candidate) → 0 < length fs → release_answer fs ≡ Ok tt
@@ -10,12 +10,6 @@ released fs some = grind (arith, common_steps)
 
 pub whole_length : (fs : List Candidate) → 0 < length fs → oldest_length fs ≡ Ok (length (oldest_of fs))
 whole_length fs some = grind (arith, common_steps)
-
-pub octet_inside : (fs : List Candidate) (place : ℕ) → place < length (oldest_of fs) → oldest_octet fs place ≡ Ok (get_or (oldest_of fs) place 0)
-octet_inside fs place h = grind (arith, common_steps)
-
-pub octet_past : (fs : List Candidate) (place : ℕ) → 0 < length fs → length (oldest_of fs) ≤ place → oldest_octet fs place ≡ Err PastCandidateEnd
-octet_past fs place some h = grind (arith, common_steps)
 
 module _ (fs : List Candidate) (place : ℕ) (memory : List ℕ) (some : 0 < length fs) where
   pub stretch_inside : length memory ≤ length (oldest_of fs) - place → stretch_answer fs place memory ≡ Ok tt

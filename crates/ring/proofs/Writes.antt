@@ -7,10 +7,12 @@ use Rattle.std.proofs.lemmas.Option.{get_or_from_slice_get}
 use Rattle.hold.specs.Candidates.{Candidate, free_space, add_answer, after_add, finish_answer, open_after_finish, finished_after_finish}
 use Rattle.ring.specs.declared.cells.Cell.{Cell}
 use Rattle.ring.specs.declared.cells.Ring.{Ring}
-use Rattle.ring.specs.Cells.{octets_in, octets_of, first_count, grouped, parted, added, unfinished_in, plain_showing}
+use Rattle.ring.specs.Cells.{octets_in, octets_of, first_count, grouped, parted, added, unfinished_in}
 use Rattle.ring.specs.Held.{in_turn, capacity_of, finished_in, opened_in, Open}
 use Rattle.ring.specs.Sound.{length_octets_take}
-use Rattle.ring.proofs.Groups.{shown_plain, octets_in_seven, Behind, behind}
+use Rattle.hold.specs.Plain.{plain_showing}
+use Rattle.hold.proofs.Plain.{shown_plain}
+use Rattle.ring.proofs.Groups.{octets_in_seven, Behind, behind}
 use Rattle.ring.proofs.Oldest.{finish_answered, none_open}
 use Rattle.ring.proofs.Turns.{finished_is_used, open_is_added, few_wait}
 

@@ -1,7 +1,7 @@
 -- The candidates that cells hold, in the turn of a ring. Assumes nothing.
 use Rattle.std.specs.Prelude.{ℕ, zero, suc, Bool, ◌&&◌, List, [], ◌∷◌, length, take, drop, Some, None, Option, ◌==◌, nat_le, slice_index_or}
 use Rattle.std.specs.List.{flat_map}
-use Rattle.hold.specs.Candidates.{Candidate, Showing}
+use Rattle.hold.specs.Candidates.{Candidate}
 use Rattle.ring.specs.declared.cells.Cell.{Cell}
 
 -- the seven octets in a cell
@@ -36,7 +36,3 @@ added (Some n) = n
 abbrev pub unfinished_in : Option ℕ → List Cell → Option Candidate
 unfinished_in None cells = None
 unfinished_in (Some n) cells = Some (octets_of (take n cells))
-
--- an octet shows as it is added
-abbrev pub plain_showing : Showing
-plain_showing place x = x

@@ -2,11 +2,11 @@
 use Rattle.std.specs.Prelude.{◌≡◌, ℕ, ◌-◌, ◌*◌, ◌<◌, ◌≤◌, List, [], ◌∷◌, length, take, drop, Some, None, Ok, Err, Option}
 use Rattle.refusals.specs.declared.Refusal.{Refusal}
 use Rattle.refusals.specs.declared.Refusal.TheVariants.{NoCandidate, PastCandidateEnd, NoCandidateOpen}
-use Rattle.hold.specs.Candidates.{Candidate, Sound, ShowsApart, finish_answer, open_after_finish, release_answer, oldest_length, oldest_octet, stretch_answer, after_stretch}
+use Rattle.hold.specs.Candidates.{Candidate, Sound, finish_answer, open_after_finish, release_answer, oldest_length, stretch_answer, after_stretch}
 use Rattle.circular.specs.Turns.{in_turn as cells_in_turn}
 use Rattle.ring.specs.declared.cells.Cell.{Cell}
 use Rattle.ring.specs.declared.cells.Ring.{Ring}
-use Rattle.ring.specs.Cells.{first_count, grouped, unfinished_in, plain_showing}
+use Rattle.ring.specs.Cells.{first_count, grouped, unfinished_in}
 use Rattle.ring.specs.Sound.{sound_cells}
 
 -- every cell once, those of the oldest candidate first
@@ -26,11 +26,8 @@ finished_in ring = grouped ring.waiting (used_cells ring)
 abbrev pub opened_in : Ring → Option Candidate
 opened_in ring = unfinished_in ring.unfinished (drop ring.used (in_turn ring))
 
-pub shows_apart : ShowsApart plain_showing
-shows_apart = record { octets = λ place x h. h; apart = λ place x y hx hy e. e }
-
 pub sound_ring : (ring : Ring) → Sound (capacity_of ring) (finished_in ring) (opened_in ring)
-sound_ring ring = sound_cells (in_turn ring) ring.used ring.waiting ring.unfinished ring.within ring.whole ring.most
+sound_ring ring = sound_cells (in_turn ring) ring.used ring.waiting ring.unfinished ring.within ring.whole
 
 -- how many codeblocks the open candidate has, and what finishing it finds unless it is empty
 pub record Open (unfinished : Option ℕ) (waiting : ℕ) (opened : Option Candidate) (codeblocks : ℕ) : Type 0 where
@@ -63,6 +60,5 @@ pub record Oldest (waiting used : ℕ) (cells : List Cell) (codeblocks : ℕ) : 
   pub octets : length (oldest_of (grouped waiting cells)) ≡ 7 * codeblocks
   pub answer : oldest_length (grouped waiting cells) ≡ Ok (7 * codeblocks)
   pub released : release_answer (grouped waiting cells) ≡ Ok tt
-  pub past : (place : ℕ) → 7 * codeblocks ≤ place → oldest_octet (grouped waiting cells) place ≡ Err PastCandidateEnd
   pub stretch_past : (place : ℕ) (memory : List ℕ) → 7 * codeblocks - place < length memory → stretch_answer (grouped waiting cells) place memory ≡ Err PastCandidateEnd
   pub kept_past : (place : ℕ) (memory : List ℕ) → 7 * codeblocks - place < length memory → after_stretch (grouped waiting cells) place memory ≡ memory

@@ -62,11 +62,10 @@ module _ (cells : List Cell) (used waiting : ℕ) (unfinished : Option ℕ) (wit
   pub open_codeblocks_added : open_codeblocks (unfinished_in unfinished (drop used cells)) ≡ added unfinished
   open_codeblocks_added = open_codeblocks_unfinished unfinished (drop used cells) open_fits
 
-  pub sound_cells : length cells ≤ 65535 → Sound (length cells) (grouped waiting (take used cells)) (unfinished_in unfinished (drop used cells))
-  sound_cells most =
+  pub sound_cells : Sound (length cells) (grouped waiting (take used cells)) (unfinished_in unfinished (drop used cells))
+  sound_cells =
       record {
         within = omega (arith, finished_codeblocks_used, open_codeblocks_added);
-        most = most;
         finished_whole = finished_whole_grouped waiting (take used cells) whole;
         open_whole = open_whole_unfinished unfinished (drop used cells) open_fits;
       }

@@ -4,8 +4,9 @@
 ghost use Rattle.std.specs.Prelude.{◌≡◌, ◌+◌, ◌-◌, ◌<◌, ◌≤◌, min, [], length, Some as present, None as absent, Ok, MatchResult, slice_index};
 ghost use Rattle.randomizer.specs.declared.Randomizer.TheVariants.{Off};
 ghost use Rattle.hold.specs.Candidates.{Matches, finished_codeblocks, open_codeblocks, oldest_octet, stretch_answer, after_stretch};
-ghost use Rattle.ring.specs.Cells.{plain_showing, added};
-ghost use Rattle.ring.specs.Held.{capacity_of, used_cells, finished_in, opened_in, oldest_of, shows_apart, sound_ring, Open, NoneOpen, NoneWaits, Oldest};
+ghost use Rattle.hold.specs.Plain.{plain_showing, plain_shows_apart};
+ghost use Rattle.ring.specs.Cells.{added};
+ghost use Rattle.ring.specs.Held.{capacity_of, used_cells, finished_in, opened_in, oldest_of, sound_ring, Open, NoneOpen, NoneWaits, Oldest};
 
 use circular::Circle;
 use hold::Hold;
@@ -30,12 +31,13 @@ impl<'a> Ring<'a> {
     /// A ring over these cells, or the first 65,535 of them where there are more, in which no candidate
     /// is open and none waits. What the cells held before does not show. It refuses nothing: with no
     /// cells at all it is a ring with no space.
-    #[tactic(auto, using(crate::proofs::Groups::shows_plainly))]
+    #[tactic(auto, using(hold::proofs::Plain::plain_matches))]
     pub fn new(cells: &'a mut [Cell]) -> Ring<'a>
-        ensures capacity { capacity_of result ≡ min (length cells.old) 65535 }
-        ensures finished { finished_in result ≡ [] }
-        ensures opened { opened_in result ≡ absent }
-        ensures matches { Matches plain_showing Off }
+        ensures capacity { ⟦<Ring<'static> as Hold>⟧.capacity result ≡ min (length cells.old) 65535 }
+        ensures finished { ⟦<Ring<'static> as Hold>⟧.finished result ≡ [] }
+        ensures opened { ⟦<Ring<'static> as Hold>⟧.opened result ≡ absent }
+        ensures showing { ⟦<Ring<'static> as Hold>⟧.showing ≡ plain_showing }
+        ensures matches { Matches ⟦<Ring<'static> as Hold>⟧.showing Off }
     {
         let most = cells.len().min(MOST_CELLS);
         Ring {
@@ -76,11 +78,10 @@ impl<'a> Ring<'a> {
     }
 
     // The octet at a place of the oldest finished candidate.
-    #[tactic(auto, using(crate::proofs::Turns::turn_below, crate::proofs::Turns::octet_value, crate::proofs::Turns::octet_answered))]
+    #[tactic(auto, using(crate::proofs::Turns::turn_below, crate::proofs::Turns::octet_value))]
     fn octet(&self, place: usize) -> u8
         requires { place < length (oldest_of (finished_in self.now)) }
-        ensures value { result ≡ slice_index (oldest_of (finished_in self.now)) place }
-        ensures answer { oldest_octet (finished_in self.now) place ≡ Ok result }
+        ensures { result ≡ slice_index (oldest_of (finished_in self.now)) place }
     {
         self.cells.get(place / 7).unwrap().octets[place % 7]
     }
@@ -107,7 +108,7 @@ impl<'a> Hold for Ring<'a> {
 
     ghost showing = { plain_showing };
 
-    ghost apart = { shows_apart };
+    ghost apart = { plain_shows_apart };
 
     ghost sound = { λ ring. sound_ring ring };
 
@@ -178,14 +179,6 @@ impl<'a> Hold for Ring<'a> {
 
     fn oldest_length(&self) -> Result<usize, Refusal> {
         Ok(7 * self.oldest()?)
-    }
-
-    fn oldest_octet(&self, place: usize) -> Result<u8, Refusal> {
-        let codeblocks = self.oldest()?;
-        if place >= 7 * codeblocks {
-            return Err(Refusal::PastCandidateEnd);
-        }
-        Ok(self.octet(place))
     }
 
     fn read_oldest(&self, place: usize, memory: &mut [u8]) -> Result<(), Refusal> {
