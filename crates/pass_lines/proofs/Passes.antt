@@ -1,23 +1,22 @@
 -- Events one after the other, with what they tell. Assumes nothing.
-use Rattle.std.proofs.Common.{◌≡◌, ℕ, suc, ◌+◌, ◌*◌, ◌≤◌, Bool, true, false, eqb, List, [], ◌∷◌, ◌++◌, map, length, take, Ok, Err, Option, Result, MatchResult, sym, refl, ap, ◌∙◌, subst, ap₂, append-nil, arith}
+use Rattle.std.proofs.Common.{◌≡◌, ℕ, ◌+◌, ◌≤◌, Bool, true, false, List, [], ◌∷◌, ◌++◌, map, length, take, drop, Option, Result, OnOk, OnErr, sym, refl, ap, ◌∙◌, subst, ap₂, append-nil, arith}
 use Rattle.std.specs.Option.{option_to_list}
 use Rattle.std.specs.Result.{result_ok}
-use Rattle.std.proofs.lemmas.List.{take_all, nil_from_length, map-append}
+use Rattle.std.proofs.lemmas.List.{take_all, nil_from_length, map-append, length-append, length-take, length-drop}
 use Rattle.std.proofs.lemmas.Grind.{flat_map-append}
 use Rattle.refusals.specs.declared.Refusal.{Refusal}
 use Rattle.hold.specs.declared.Hold.{Ghosts}
 use Rattle.hold.specs.Candidates.{Showing}
 use Rattle.queue.specs.declared.slots.Queue.{Queue}
-use Rattle.queue.specs.Waiting.{waiting, capacity, Taken, RefusedEmpty}
+use Rattle.queue.specs.Waiting.{waiting, free, slots_of, without_oldest, take_answer}
 use Rattle.reception.specs.declared.Report.{Report}
-use Rattle.reception.specs.Symbols.{bit_value}
 use Rattle.reception.specs.Searching.{next_count, next_window, is_start}
-use Rattle.reception.specs.Decoding.{Settings, Held, Decoded, goes_on, ends, decoded}
-use Rattle.reception.specs.Rules.{Phase, INACTIVE, SEARCH, DECODE, Event, carrier_up, carrier_down, symbol, release, at_window, at_codeblock, at_word, at_event}
+use Rattle.reception.specs.Decoding.{Settings, Held, Decoded, goes_on, ends, read_symbol}
+use Rattle.reception.specs.Rules.{Phase, INACTIVE, SEARCH, DECODE, Event, carrier_up, carrier_down, symbol, release, at_window, at_decoded, at_event}
 use Rattle.reception.specs.Runs.{after_events, reports_of}
 use Rattle.reception.specs.Calls.{Call, call_up, symbol_events, events_in}
 use Rattle.decoding.specs.Meaning.{rules_of}
-use Rattle.receiver.specs.Meaning.{state_of, free_slots}
+use Rattle.receiver.specs.Meaning.{settings_of, state_of, free_slots}
 use Rattle.receiver.specs.Calls.{reports_made, Called}
 use Rattle.receiver.specs.Events.{Queued}
 use Rattle.receiver.proofs.Ran.{up_is_quiet}
@@ -29,13 +28,9 @@ use Rattle.pass_lines.specs.Answers.{segment_events, pass_events}
 use Rattle.pass_lines.specs.Progress.{Progress, progress, progress_of, GoesOn, with_reports, after_outcome, run, Passed}
 
 -- an event makes one report at most
-few_at_codeblock : (d : Decoded) → length (at_codeblock d).reports ≤ 1
-few_at_codeblock (goes_on h k) = omega arith
-few_at_codeblock (ends h one) = omega arith
-
-few_at_word : (settings : Settings) (showing : Showing) (h : Held) (count word k : ℕ) (whole : Bool) → length (at_word settings showing h count word k whole).reports ≤ 1
-few_at_word settings showing h count word k true = few_at_codeblock (decoded settings showing h k word)
-few_at_word settings showing h count word k false = omega arith
+few_at_decoded : (d : Decoded) → length (at_decoded d).reports ≤ 1
+few_at_decoded (goes_on h r) = omega arith
+few_at_decoded (ends h one) = omega arith
 
 few_at_window : (h : Held) (count window : ℕ) (found : Bool) → length (at_window h count window found).reports ≤ 1
 few_at_window h count window true = omega arith
@@ -44,57 +39,79 @@ few_at_window h count window false = omega arith
 few_reports : (settings : Settings) (showing : Showing) (p : Phase) (h : Held) (e : Event) → length (at_event settings showing (record { phase = p; held = h }) e).reports ≤ 1
 few_reports settings showing INACTIVE h carrier_up = omega arith
 few_reports settings showing (SEARCH c w) h carrier_up = omega arith
-few_reports settings showing (DECODE c w k) h carrier_up = omega arith
+few_reports settings showing (DECODE r) h carrier_up = omega arith
 few_reports settings showing INACTIVE h carrier_down = omega arith
 few_reports settings showing (SEARCH c w) h carrier_down = omega arith
-few_reports settings showing (DECODE c w k) h carrier_down = omega arith
+few_reports settings showing (DECODE r) h carrier_down = omega arith
 few_reports settings showing INACTIVE h (symbol b) = omega arith
 few_reports settings showing (SEARCH c w) h (symbol b) = few_at_window h (next_count c) (next_window w b) (is_start settings.mode (next_count c) (next_window w b))
-few_reports settings showing (DECODE c w k) h (symbol b) = few_at_word settings showing h (suc c) (2 * w + bit_value b) k (eqb (suc c) 64)
+few_reports settings showing (DECODE r) h (symbol b) = few_at_decoded (read_symbol settings showing h r b)
 few_reports settings showing p h release = omega arith
 
--- the queue after one event: its report waits, if it made one
-waits_one : (q later : Queue Report) (reports : List Report) → length (waiting q) ≡ 0 → capacity q ≡ 1 → length reports ≤ 1 → Queued (reports ++ []) q later → waiting later ≡ reports
-waits_one q later reports none one few queued =
-    let slot : free_slots q ≡ 1 = omega arith in
-    queued.waits ∙ ap₂ (λ (w : List Report) (n : ℕ). w ++ take n (reports ++ [])) (nil_from_length (waiting q) none) slot ∙ ap (take 1) (append-nil reports) ∙ take_all 1 reports few
+-- the queue after one event: its report waits, if it made one, and else the slot is free
+pub record OneToldOf (queue : Queue Report) (reports : List Report) : Type 0 where
+  pub waits : waiting queue ≡ reports
+  pub few : length (waiting queue) + length (free queue) ≡ 1
 
--- what is taken from a queue where one report at most waits is all that waits
-pub all_taken : (full left : Queue Report) (taken : Result Report Refusal) → length (waiting full) ≤ 1 → MatchResult taken (λ one. Taken full one left) (RefusedEmpty full left) →
-    (waiting full ≡ option_to_list (result_ok taken)) × (length (waiting left) ≡ 0)
-all_taken full left (Ok one) few took =
-    let none : length (waiting left) ≡ 0 = omega (arith, ap length took.oldest) in
-    (took.oldest ∙ ap (λ l. one ∷ l) (nil_from_length (waiting left) none), none)
-all_taken full left (Err why) few refused = (refused.empty, ap (λ q. length (waiting q)) refused.same ∙ ap length refused.empty)
+one_told : (q later : Queue Report) (reports : List Report) → length (waiting q) ≡ 0 → length (free q) ≡ 1 → length reports ≤ 1 → Queued (reports ++ []) q later → OneToldOf later reports
+one_told q later reports none one few queued =
+    let all = ap (take (free_slots q)) (append-nil reports) ∙ take_all (free_slots q) reports (omega arith) in
+    let waits = ap (λ s. s.waiting) queued ∙ ap₂ ◌++◌ (nil_from_length (waiting q) none) all in
+    let left = ap (λ s. length s.free) queued ∙ ap (λ l. length (drop (length l) (free q))) all in
+    record { waits = waits; few = omega (arith, ap length waits, left, length-drop (length reports) (free q)) }
+
+-- what is taken from a queue where one report at most waits is all that waits, and the slot is free again
+pub record AllTaken (full left : Queue Report) (taken : Result Report Refusal) : Type 0 where
+  pub was : waiting full ≡ option_to_list (result_ok taken)
+  pub none_left : length (waiting left) ≡ 0
+  pub one_free : length (free left) ≡ 1
+
+pub all_taken : (full left : Queue Report) (taken : Result Report Refusal) → length (waiting full) + length (free full) ≡ 1 → taken ≡ take_answer (waiting full) →
+    OnOk taken (slots_of left ≡ without_oldest (slots_of full)) → OnErr taken (left ≡ full) → AllTaken full left taken
+all_taken full left taken few answer accepted refused = by (waiting full) taken refl answer accepted refused
+  where
+    by : (records : List Report) (taken : Result Report Refusal) → waiting full ≡ records → taken ≡ take_answer (waiting full) →
+        OnOk taken (slots_of left ≡ without_oldest (slots_of full)) → OnErr taken (left ≡ full) → AllTaken full left taken
+    by [] taken is answer accepted refused =
+        let why = answer ∙ ap take_answer is in
+        let same : left ≡ full = subst (λ t. OnErr t (left ≡ full)) why refused in
+        let empty = ap (λ q. waiting q) same ∙ is in
+        record {
+          was = is ∙ sym (ap (λ t. option_to_list (result_ok t)) why);
+          none_left = ap length empty;
+          one_free = omega (arith, ap length is, ap (λ q. length (free q)) same);
+        }
+    by (one ∷ more) taken is answer accepted refused =
+        let ok = answer ∙ ap take_answer is in
+        let out : slots_of left ≡ without_oldest (slots_of full) = subst (λ t. OnOk t (slots_of left ≡ without_oldest (slots_of full))) ok accepted in
+        let alone : length more ≡ 0 = omega (arith, ap length is) in
+        record {
+          was = is ∙ ap (λ l. one ∷ l) (nil_from_length more alone) ∙ sym (ap (λ t. option_to_list (result_ok t)) ok);
+          none_left = omega (arith, ap (λ s. length s.waiting) out, length-drop 1 (waiting full), ap length is);
+          one_free = omega (arith, ap (λ s. length s.free) out, length-append (free full) (take 1 (waiting full)), length-take 1 (waiting full), ap length is);
+        }
 
 module _ {X : Type 0} (hold : Ghosts X) where
   -- the queue after a call of one event
-  pub waits_after : (call : Call) (e : Event) (before : Receiving X hold) (full : Queue Report) → events_in call ≡ e ∷ [] → Queued (reports_made hold before.receiver call) before.queue full →
-      waiting full ≡ (at_event (rules_of before.receiver.settings) hold.showing (state_of hold before.receiver) e).reports
-  waits_after call e before full one queued =
-      let rules = rules_of before.receiver.settings in
+  pub told_after : (call : Call) (e : Event) (before : Receiving X hold) (full : Queue Report) → events_in call ≡ e ∷ [] → Queued (reports_made hold before.receiver call) before.queue full →
+      OneToldOf full (at_event (rules_of (settings_of before.receiver)) hold.showing (state_of hold before.receiver) e).reports
+  told_after call e before full one queued =
+      let rules = rules_of (settings_of before.receiver) in
       let s = state_of hold before.receiver in
-      waits_one before.queue full (at_event rules hold.showing s e).reports before.nothing_waits before.room_for_one (few_reports rules hold.showing s.phase s.held e)
+      one_told before.queue full (at_event rules hold.showing s e).reports before.nothing_waits before.room_for_one (few_reports rules hold.showing s.phase s.held e)
       (subst (λ l. Queued l before.queue full) (ap (reports_of rules hold.showing s) one) queued)
-
-  -- and one report at most
-  pub one_waits : (call : Call) (e : Event) (before : Receiving X hold) (full : Queue Report) → events_in call ≡ e ∷ [] → Queued (reports_made hold before.receiver call) before.queue full → length (waiting full) ≤ 1
-  one_waits call e before full one queued =
-      let s = state_of hold before.receiver in
-      omega (arith, ap length (waits_after call e before full one queued), few_reports (rules_of before.receiver.settings) hold.showing s.phase s.held e)
 
   -- one event by a call, and what it tells
   pub passed_one : (call : Call) (e : Event) (before mid after : Receiving X hold) (full : Queue Report) (taken : Result Report Refusal) (report : Option Report) → events_in call ≡ e ∷ [] →
       Called hold call before.receiver mid.receiver → mid.log ≡ before.log → Queued (reports_made hold before.receiver call) before.queue full →
-      MatchResult taken (λ one. Taken full one mid.queue) (RefusedEmpty full mid.queue) → report ≡ result_ok taken →
+      AllTaken full mid.queue taken → report ≡ result_ok taken →
       GoesOn hold mid after (with_reports (progress_of hold mid) (option_to_list report)) → Passed hold (e ∷ []) before after
   passed_one call e before mid after full taken report one called same queued took ok told =
-      let rules = rules_of before.receiver.settings in
+      let rules = rules_of (settings_of before.receiver) in
       let s = state_of hold before.receiver in
       let outcome = at_event rules hold.showing s e in
       let there : state_of hold mid.receiver ≡ outcome.after = called.state ∙ ap (after_events rules hold.showing s) one in
-      let waits : option_to_list report ≡ outcome.reports =
-      ap option_to_list ok ∙ sym (all_taken full mid.queue taken (one_waits call e before full one queued) took).0 ∙ waits_after call e before full one queued in
+      let waits : option_to_list report ≡ outcome.reports = ap option_to_list ok ∙ sym took.was ∙ (told_after call e before full one queued).waits in
       record {
         settings = told.settings ∙ called.settings;
         come = told.come ∙ ap₂ with_reports (ap₂ progress there same) waits;
@@ -104,7 +121,7 @@ module _ {X : Type 0} (hold : Ghosts X) where
   pub passed_up : (before after : Receiving X hold) → Called hold call_up before.receiver after.receiver → after.log ≡ before.log → Passed hold (carrier_up ∷ []) before after
   passed_up before after called same =
       let s = state_of hold before.receiver in
-      let outcome = at_event (rules_of before.receiver.settings) hold.showing s carrier_up in
+      let outcome = at_event (rules_of (settings_of before.receiver)) hold.showing s carrier_up in
       record {
         settings = called.settings;
         come = ap₂ progress called.state same ∙ ap (with_reports (progress outcome.after before.log)) (sym (up_is_quiet s.phase s.held));
@@ -120,7 +137,7 @@ passed_then hold es fs a b c first second =
     record {
       settings = second.settings ∙ first.settings;
       come = second.come ∙ ap₂ (λ set p. run (rules_of set) hold.showing p fs) first.settings first.come
-          ∙ sym (run_append (rules_of a.receiver.settings) hold.showing es fs (progress_of hold a));
+          ∙ sym (run_append (rules_of (settings_of a.receiver)) hold.showing es fs (progress_of hold a));
     }
 
 pub passed_as : {X : Type 0} {hold : Ghosts X} {es fs : List Event} {a b : Receiving X hold} → es ≡ fs → Passed hold es a b → Passed hold fs a b

@@ -7,7 +7,7 @@ use Rattle.reception.specs.Decoding.{Settings, releasing}
 use Rattle.reception.specs.Rules.{State, state, Event, Outcome, at_event}
 use Rattle.reception.specs.Counting.{counted}
 use Rattle.decoding.specs.Meaning.{rules_of}
-use Rattle.receiver.specs.Meaning.{state_of}
+use Rattle.receiver.specs.Meaning.{settings_of, state_of}
 use Rattle.pass_lines.specs.declared.PassLog.{PassLog}
 use Rattle.pass_lines.specs.declared.receiving.Receiving.{Receiving}
 use Rattle.pass_lines.specs.Lines.{report_line, oldest_line, is_closed}
@@ -33,7 +33,7 @@ pub record Writes (more : List ℕ) (r f : ℕ) (before after : PassLog) : Type 
 
 -- a receiver and what is written have come so far; the settings stay
 pub record GoesOn {X : Type 0} (hold : Ghosts X) (before after : Receiving X hold) (to : Progress) : Type 0 where
-  pub settings : after.receiver.settings ≡ before.receiver.settings
+  pub settings : settings_of after.receiver ≡ settings_of before.receiver
   pub come : progress_of hold after ≡ to
 
 -- a report gets its line
@@ -68,4 +68,4 @@ module _ (settings : Settings) (showing : Showing) where
 
 -- a receiver and what is written after events, with nothing left to tell
 abbrev pub Passed : {X : Type 0} → (hold : Ghosts X) → List Event → (before after : Receiving X hold) → Type 0
-Passed hold events before after = GoesOn hold before after (run (rules_of before.receiver.settings) hold.showing (progress_of hold before) events)
+Passed hold events before after = GoesOn hold before after (run (rules_of (settings_of before.receiver)) hold.showing (progress_of hold before) events)

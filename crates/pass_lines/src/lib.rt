@@ -7,6 +7,7 @@ ghost use Rattle.reception.specs.Rules.{symbol, carrier_down};
 ghost use Rattle.reception.specs.Calls.{symbol_events};
 ghost use Rattle.pass_record.specs.Segments.{segments_in, symbols_in};
 ghost use Rattle.decoding.specs.Meaning.{rules_of, held_in};
+ghost use Rattle.receiver.specs.Meaning.{held_by};
 ghost use Rattle.pass_lines.specs.Lines.{report_line, frame_line, oldest_line, end_line};
 ghost use Rattle.pass_lines.specs.Progress.{progress_of, with_report, with_reports, Writes, GoesOn, Passed};
 ghost use Rattle.pass_lines.specs.Answers.{rules, segment_events, pass_events, text_from, pass_text, Answers};
@@ -56,7 +57,7 @@ impl PassLog {
 
     // Writes a line for the oldest finished candidate.
     fn write_oldest<H: Hold>(&mut self, receiver: &Receiver<H>) -> Result<(), AllocError>
-        ensures { OnOk result (Writes (oldest_line (H.Hold.finished receiver.now.hold)) 0 1 self.old self.new) }
+        ensures { OnOk result (Writes (oldest_line (held_by H.Hold receiver.now).finished) 0 1 self.old self.new) }
     {
         if let Ok(octets) = receiver.oldest_length() {
             let mut memory = vec![in self.heap; 0u8; octets]?;

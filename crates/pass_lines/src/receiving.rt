@@ -1,5 +1,5 @@
 ghost use Rattle.std.specs.Prelude.{◌≡◌, length};
-ghost use Rattle.queue.specs.Waiting.{waiting, capacity};
+ghost use Rattle.queue.specs.Waiting.{waiting, free};
 
 use crate::PassLog;
 use hold::Hold;
@@ -15,5 +15,5 @@ pub(crate) struct Receiving<'a, H: Hold> {
     pub(crate) queue: Queue<'a, Report>,
     pub(crate) log: PassLog,
     ghost nothing_waits: { length (waiting queue) ≡ 0 },
-    ghost room_for_one: { capacity queue ≡ 1 },
+    ghost room_for_one: { length (free queue) ≡ 1 },
 }
