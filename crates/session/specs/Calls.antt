@@ -52,7 +52,7 @@ sending locked (Err why) = Err (locked, why)
 abbrev pub only_frame : FrameSpan → Job
 only_frame span = record { frame = span; idle = 0 }
 
--- the job that waits longest: its octets, its answer, and what waits then
+-- the job that waits longest: its octets and its answer
 module _ (settings : Settings) (frames : List ℕ) where
   abbrev pub next_octets : List Job → List ℕ
   next_octets [] = []
@@ -65,8 +65,3 @@ module _ (settings : Settings) (frames : List ℕ) where
   abbrev pub next_writings : List Job → List Writing
   next_writings [] = []
   next_writings (job ∷ rest) = writings_of frames job
-
-abbrev pub left_waiting : List Job → Result ℕ Refusal → List Job
-left_waiting [] answer = []
-left_waiting (job ∷ rest) (Ok octets) = rest
-left_waiting (job ∷ rest) (Err why) = job ∷ rest

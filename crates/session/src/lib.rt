@@ -2,12 +2,12 @@
 //! physical layer operations procedures do not allow does not compile.
 #![tactic(auto)]
 
-ghost use Rattle.std.specs.Prelude.{◌≡◌, [], ◌∷◌, length, take, MatchResult, IfOk};
-ghost use Rattle.queue.specs.Waiting.{waiting, capacity};
+ghost use Rattle.std.specs.Prelude.{◌≡◌, [], ◌∷◌, length, take, MatchResult, IfOk, OnOk, OnErr};
+ghost use Rattle.queue.specs.Waiting.{waiting, slots_of, without_oldest};
 ghost use Rattle.procedures.specs.Stretch.{repeated, idles, stretch_octets, frames_in};
 ghost use Rattle.procedures.specs.Reception.{SessionPromise, FramesWithin};
 ghost use Rattle.cltu.specs.Limit.{limit_answer};
-ghost use Rattle.session.specs.Calls.{MadeWith, silent_with, carrier_with, acquired, state_after, sending, only_frame, next_octets, next_answer, next_writings, left_waiting};
+ghost use Rattle.session.specs.Calls.{MadeWith, silent_with, carrier_with, acquired, state_after, sending, only_frame, next_octets, next_answer, next_writings};
 ghost use Rattle.session.specs.Writing.{parameters_of, Found, NotWhole, idle_answer, job_octets, job_answer, memory_after, GoesOn, writings_of};
 
 use cltu::{CodeblockLimit, Sender};
@@ -258,7 +258,7 @@ impl Locked {
     /// PLOP-2, and the job's idle octets. Answers how many octets these are. The job no longer waits then. In PLOP-1
     /// the session is `Sent` behind it, so that the next job waits for a break and an acquisition. Refused
     /// with 1 and 2 as a frame is that is sent, with 3 where the job's idle octets are more than 2,000, and with
-    /// 15 where no job waits; then the memory is as it was, and what waits waits on.
+    /// 15 where no job waits; then the memory is as it was, and so are the queue and the memory under it.
     pub fn run_next(
         self,
         jobs: &mut Queue<'_, Job>,
@@ -267,8 +267,8 @@ impl Locked {
     ) -> Result<(AfterSending, usize), (Locked, Refusal)>
         ensures answer { result ≡ sending self (next_answer self.settings frames.now (waiting jobs.old) memory.old) }
         ensures memory { memory.new ≡ memory_after (next_octets self.settings frames.now (waiting jobs.old)) memory.old (next_answer self.settings frames.now (waiting jobs.old) memory.old) }
-        ensures waiting { waiting jobs.new ≡ left_waiting (waiting jobs.old) (next_answer self.settings frames.now (waiting jobs.old) memory.old) }
-        ensures capacity { capacity jobs.new ≡ capacity jobs.old }
+        ensures accepted { OnOk result (slots_of jobs.new ≡ without_oldest (slots_of jobs.old)) }
+        ensures refused { OnErr result (jobs.new ≡ jobs.old) }
         ensures stretch { IfOk result (λ done. GoesOn self.settings (next_writings self.settings frames.now (waiting jobs.old)) (take done.1 memory.new)) }
         ensures fits { IfOk result (λ _. FramesWithin self.settings.sender.limit.count (frames_in (next_writings self.settings frames.now (waiting jobs.old)))) }
     {
