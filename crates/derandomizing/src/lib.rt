@@ -59,17 +59,17 @@ fn derandomized(mut octets: [u8; 7], place: usize) -> [u8; 7]
 }
 
 impl<H: Hold> Hold for Derandomizing<H> {
-    ghost capacity = { λ s. H.Hold.capacity s.below };
+    ghost capacity = { λ layer. H.Hold.capacity (below_of layer) };
 
-    ghost finished = { λ s. H.Hold.finished s.below };
+    ghost finished = { λ layer. H.Hold.finished (below_of layer) };
 
-    ghost opened = { λ s. H.Hold.opened s.below };
+    ghost opened = { λ layer. H.Hold.opened (below_of layer) };
 
     ghost showing = { derandomized H.Hold.showing };
 
     ghost apart = { shows_apart H.Hold.showing H.Hold.apart };
 
-    ghost sound = { λ s. H.Hold.sound s.below };
+    ghost sound = { λ layer. H.Hold.sound (below_of layer) };
 
     fn open(&mut self) -> Result<(), Refusal> {
         self.below.open()

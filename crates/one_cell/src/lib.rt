@@ -1,38 +1,19 @@
 //! A hold of one codeblock: the smallest that keeps something.
 #![tactic(auto)]
 
-ghost use Rattle.std.specs.Prelude.{◌≡◌, [], length, None as absent};
+ghost use Rattle.std.specs.Prelude.{◌≡◌, [], None as absent};
 ghost use Rattle.randomizer.specs.declared.Randomizer.TheVariants.{Off};
 ghost use Rattle.hold.specs.Candidates.{Matches};
 ghost use Rattle.hold.specs.Plain.{plain_showing, plain_shows_apart};
-ghost use Rattle.one_cell.specs.Held.{finished_in, opened_in, sound_held};
+ghost use Rattle.one_cell.specs.Held.{finished_in, opened_in, sound_cell};
 
+use cell::Held;
 use hold::Hold;
 use refusals::Refusal;
 
-/// What is held, apart from the octets.
-#[derive(Clone, Copy)]
-enum Held {
-    /// No candidate.
-    Nothing,
-    /// An open candidate that is empty.
-    Open,
-    /// An open candidate that has the codeblock.
-    Added,
-    /// A finished candidate.
-    Finished,
-    /// A finished candidate, and an open one that is empty.
-    FinishedAndOpen,
-}
+mod cell;
 
-/// A hold with room for one codeblock, in memory of its own.
-#[derive(Drop)]
-pub struct OneCell {
-    octets: [u8; 7],
-    held: Held,
-    // A law sees the octets as a list, and of its length this alone.
-    ghost seven: { length octets ≡ 7 },
-}
+pub use cell::OneCell;
 
 impl OneCell {
     /// An empty hold, in which no candidate is open and none waits.
@@ -54,15 +35,15 @@ impl OneCell {
 impl Hold for OneCell {
     ghost capacity = { λ cell. 1 };
 
-    ghost finished = { λ cell. finished_in cell.held cell.octets };
+    ghost finished = { λ cell. finished_in cell };
 
-    ghost opened = { λ cell. opened_in cell.held cell.octets };
+    ghost opened = { λ cell. opened_in cell };
 
     ghost showing = { plain_showing };
 
     ghost apart = { plain_shows_apart };
 
-    ghost sound = { λ cell. sound_held cell.held cell.octets cell.seven };
+    ghost sound = { λ cell. sound_cell cell };
 
     fn open(&mut self) -> Result<(), Refusal> {
         self.held = match self.held {
