@@ -367,10 +367,9 @@ fn pass_levels(round: u64) -> [i8; SYMBOLS] {
 fn received_checksum<S: Symbol>(pass: &[S], a_call: usize, operations: u64, round: u64) -> u64 {
     let settings = Settings::new(Mode::Correcting, 37).unwrap();
     let mut cells = [Cell::EMPTY; 37];
-    let mut ring = Ring::new(&mut cells);
     let mut slots = [Report::UNUSED; 4];
     let mut queue = Queue::new(&mut slots);
-    let mut receiver = Receiver::new(settings, &mut ring);
+    let mut receiver = Receiver::new(settings, Ring::new(&mut cells));
     let _ = receiver.carrier_up();
     let mut checksum: u64 = round;
     for _ in 0..operations / 4_096 {

@@ -1,12 +1,13 @@
 //! A layer over any hold that takes the randomizer's sequence off what is added.
 #![tactic(auto)]
 
-ghost use Rattle.std.specs.Prelude.{◌≡◌, ◌*◌, ◌≤◌};
-ghost use Rattle.randomizer.specs.declared.Randomizer.TheVariants.{On};
+ghost use Rattle.std.specs.Prelude.{◌≡◌, ◌*◌, ◌<◌};
+ghost use Rattle.randomizer.specs.declared.Randomizer.TheVariants.{On, Off};
 ghost use Rattle.randomizer.specs.Sequence.{randomized_from};
-ghost use Rattle.hold.specs.Candidates.{open_codeblocks, add_answer, after_add};
-ghost use Rattle.derandomizing.specs.Derandomized.{derandomized, MatchesOver};
+ghost use Rattle.hold.specs.Candidates.{Matches, open_codeblocks, add_answer, after_add};
+ghost use Rattle.derandomizing.specs.Derandomized.{derandomized};
 ghost use Rattle.derandomizing.specs.Apart.{shows_apart};
+ghost use Rattle.derandomizing.specs.Below.{below_of};
 
 use hold::Hold;
 use randomizer::sequence_octet;
@@ -20,18 +21,25 @@ pub struct Derandomizing<H> {
 }
 
 impl<H: Hold> Derandomizing<H> {
-    /// The layer over a hold, in whatever state that is.
+    /// The layer over a hold, in whatever state that is. What is held below is what the layer holds.
     #[tactic(auto, using(crate::proofs::Shown::matches_over))]
     pub fn over(below: H) -> Derandomizing<H>
-        ensures below { result.below ≡ below }
-        ensures matches { MatchesOver H.Hold.showing }
+        ensures below { below_of result ≡ below }
+        ensures capacity { ⟦<Derandomizing<H> as Hold>⟧.capacity result ≡ H.Hold.capacity below }
+        ensures finished { ⟦<Derandomizing<H> as Hold>⟧.finished result ≡ H.Hold.finished below }
+        ensures opened { ⟦<Derandomizing<H> as Hold>⟧.opened result ≡ H.Hold.opened below }
+        ensures showing { ⟦<Derandomizing<H> as Hold>⟧.showing ≡ derandomized H.Hold.showing }
+        ensures matches { Matches H.Hold.showing Off → Matches ⟦<Derandomizing<H> as Hold>⟧.showing On }
     {
         Derandomizing { below }
     }
 
-    /// Ends the layer and gives back the hold below it.
+    /// Ends the layer and gives back the hold below it, which holds what the layer held.
     pub fn into_below(self) -> H
-        ensures { result ≡ self.below }
+        ensures below { result ≡ below_of self }
+        ensures capacity { H.Hold.capacity result ≡ ⟦<Derandomizing<H> as Hold>⟧.capacity self }
+        ensures finished { H.Hold.finished result ≡ ⟦<Derandomizing<H> as Hold>⟧.finished self }
+        ensures opened { H.Hold.opened result ≡ ⟦<Derandomizing<H> as Hold>⟧.opened self }
     {
         let Derandomizing { below } = self;
         below
@@ -41,7 +49,7 @@ impl<H: Hold> Derandomizing<H> {
 // Seven octets with the sequence added, from a place of a candidate on.
 #[tactic(auto, using(crate::proofs::Shown::randomized_more))]
 fn derandomized(mut octets: [u8; 7], place: usize) -> [u8; 7]
-    requires { place ≤ 7 * 65535 }
+    requires { place < 7 * 255 }
     ensures { result ≡ randomized_from On place octets }
 {
     for (i, octet) in octets.iter_mut().enumerate() {
@@ -51,24 +59,25 @@ fn derandomized(mut octets: [u8; 7], place: usize) -> [u8; 7]
 }
 
 impl<H: Hold> Hold for Derandomizing<H> {
-    ghost capacity = { λ s. H.Hold.capacity s.below };
+    ghost capacity = { λ layer. H.Hold.capacity (below_of layer) };
 
-    ghost finished = { λ s. H.Hold.finished s.below };
+    ghost finished = { λ layer. H.Hold.finished (below_of layer) };
 
-    ghost opened = { λ s. H.Hold.opened s.below };
+    ghost opened = { λ layer. H.Hold.opened (below_of layer) };
 
     ghost showing = { derandomized H.Hold.showing };
 
     ghost apart = { shows_apart H.Hold.showing H.Hold.apart };
 
-    ghost sound = { λ s. H.Hold.sound s.below };
+    ghost sound = { λ layer. H.Hold.sound (below_of layer) };
 
     fn open(&mut self) -> Result<(), Refusal> {
         self.below.open()
     }
 
     fn add(&mut self, octets: [u8; 7]) -> Result<(), Refusal> {
-        let place = 7 * self.below.open_codeblocks();
+        // The sequence repeats after 255 octets.
+        let place = 7 * (self.below.open_codeblocks() % 255);
         self.below.add(derandomized(octets, place))
     }
 
@@ -98,10 +107,6 @@ impl<H: Hold> Hold for Derandomizing<H> {
 
     fn oldest_length(&self) -> Result<usize, Refusal> {
         self.below.oldest_length()
-    }
-
-    fn oldest_octet(&self, place: usize) -> Result<u8, Refusal> {
-        self.below.oldest_octet(place)
     }
 
     fn read_oldest(&self, place: usize, memory: &mut [u8]) -> Result<(), Refusal> {

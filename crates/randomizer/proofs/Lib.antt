@@ -1,4 +1,4 @@
 -- The sequence's rule, its period, and the laws of adding it. Assumes nothing.
 mod Rule
-mod Period
+pub mod Period
 pub mod Laws

@@ -17,7 +17,7 @@ sequence_bit_repeats (suc times) n =
     let once_more : suc times * 2040 + n ≡ 2040 + (times * 2040 + n) = omega arith in
     ap sequence_bit once_more ∙ bit_after_add 2040 (times * 2040 + n) 1 1 1 1 1 1 1 1 ∙ sequence_bit_repeats times n
 
-sequence_octet_repeats : (place : ℕ) → sequence_octet (place % 255) ≡ sequence_octet place
+pub sequence_octet_repeats : (place : ℕ) → sequence_octet (place % 255) ≡ sequence_octet place
 sequence_octet_repeats place =
     ap octet_of (fun_ext (λ i.
     let there : place / 255 * 2040 + (8 * (place % 255) + i) ≡ 8 * place + i = omega arith in

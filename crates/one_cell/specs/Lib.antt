@@ -1,0 +1,2 @@
+-- What a hold of one cell holds. Assumes nothing.
+pub mod Held
