@@ -7,7 +7,7 @@ ghost use Rattle.std.specs.Int.Digits.{number_from_digits};
 ghost use Rattle.bch.specs.Polynomial.{◌⊕◌, weight, remainder as remainder_by, DivisionLeavesTheRemainder};
 ghost use Rattle.bch.specs.Codeblock.{generator, complemented, check_bits, codeblock, information_of};
 ghost use Rattle.bch.specs.Reception.{syndrome_polynomial, received, syndrome, place_from, wrong_place, turned, accepted, judged, verdict};
-ghost use Rattle.bch.specs.Laws.{IsTheWrongPlace, AbsentOnlyAtZero, UndamagedIsAccepted, OneWrongBitIsCorrected, TwoWrongBitsAreRejected, OneOrThreeWrongBitsAreDetected};
+ghost use Rattle.bch.specs.Laws.{IsTheWrongPlace, AbsentOnlyAtZero, UndamagedIsAccepted, OneWrongBitIsCorrected, TwoWrongBitsAreRejected, OneOrThreeWrongBitsAreDetected, TheFillerDecidesNothing};
 
 use bch::{Accepted, Mode};
 
@@ -157,6 +157,7 @@ fn received_remainder(word: u64) -> Coefficients
 /// remainder by X^6 + X + 1 as a number below 64.
 pub fn syndrome(word: u64) -> (u8, u8)
     ensures value { result ≡ syndrome word }
+    ensures range { (result.0 < 2) × (result.1 < 64) }
     ensures division { DivisionLeavesTheRemainder }
 {
     let remainder = received_remainder(word);
@@ -229,6 +230,7 @@ pub fn judge(mode: Mode, word: u64) -> Option<Accepted>
     ensures one_wrong_bit { OneWrongBitIsCorrected mode word result }
     ensures two_wrong_bits { TwoWrongBitsAreRejected word result }
     ensures one_or_three { OneOrThreeWrongBitsAreDetected mode word result }
+    ensures filler { TheFillerDecidesNothing mode word result }
 {
     judged(mode, word, syndrome(word))
 }
