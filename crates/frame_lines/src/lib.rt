@@ -3,7 +3,7 @@
 
 ghost use Rattle.std.specs.Prelude.{IfOk, Some};
 ghost use Rattle.hexadecimal.specs.Text.{octets_written};
-ghost use Rattle.frame_lines.specs.Lines.{Answers, answer_text};
+ghost use Rattle.frame_lines.specs.Lines.{Answers, IsNeverTooShort, answer_text};
 
 use cltu::{LONGEST_CLTU, Sender, codeblocks_for};
 use hexadecimal::{capitals, read_octets};
@@ -70,7 +70,8 @@ fn frame_answer(heap: Global, sender: Sender, frame: &[u8]) -> Result<Answer, Al
 /// octets and of octets, and the octets; `refused` and the number where the sender refuses the
 /// frame; `unreadable` where the line is not whole octets of hexadecimal digits.
 pub fn answer_line(heap: Global, sender: Sender, line: &[u8]) -> Result<Answer, AllocError>
-    ensures { IfOk result (λ a. Answers sender (octets_written line.now) a) }
+    ensures answer { IfOk result (λ a. Answers sender (octets_written line.now) a) }
+    ensures memory { IfOk result IsNeverTooShort }
 {
     match read_octets(heap, line)? {
         Some(frame) => frame_answer(heap, sender, frame.as_slice()),
