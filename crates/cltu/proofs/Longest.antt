@@ -1,12 +1,10 @@
 -- The longest frame and the longest CLTU. Assumes nothing.
-use Rattle.std.proofs.Common.{◌≡◌, ℕ, ◌+◌, ◌*◌, ◌≤◌, ◌==◌, ◌||◌, Bool, true, false, cond, List, length, Ok, Err, refl, sym, ap, ◌∙◌, nat_lt, arith}
+use Rattle.std.proofs.Common.{◌≡◌, ◌*◌, ◌==◌, ◌||◌, false, length, nat_lt, arith}
 use Rattle.std.proofs.lemmas.Bool.{or_parts, ltb-false}
 use Rattle.std.proofs.lemmas.Bool.Decides.{nat_tests}
 use Rattle.bch.specs.Codeblock.{information_octets}
-use Rattle.refusals.specs.declared.Refusal.TheVariants.{FrameLength, MemoryTooShort}
-use Rattle.cltu.specs.declared.Sender.{Sender}
 use Rattle.cltu.specs.Cltu.{longest_frame}
-use Rattle.cltu.specs.Writing.{frame_refused, sent_cltu, writing_answer, length_answer, RefusesNoFrame, NoCltuIsLonger, IsNeverTooShort}
+use Rattle.cltu.specs.Writing.{RefusesNoFrame, NoCltuIsLonger, IsNeverTooShort}
 use Rattle.cltu.proofs.Places.{length_cltu}
 
 pub refuses_no_frame : RefusesNoFrame 147

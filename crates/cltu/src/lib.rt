@@ -15,7 +15,6 @@ use refusals::Refusal;
 mod limit;
 
 pub use limit::CodeblockLimit;
-
 use limit::MOST_CODEBLOCKS;
 
 /// What a sender's CLTUs have in common.
@@ -40,8 +39,9 @@ pub const LONGEST_FRAME: usize = 1024;
 
 /// How many octets the longest CLTU has, 1,186. It is for the length of an array: a constant has no
 /// contract, so take `longest_cltu` where a call will do.
-pub const LONGEST_CLTU: usize =
-    START_SEQUENCE.len() + CODEBLOCK_OCTETS * MOST_CODEBLOCKS + TAIL_SEQUENCE.len();
+pub const LONGEST_CLTU: usize = START_SEQUENCE.len()
+    + CODEBLOCK_OCTETS * MOST_CODEBLOCKS
+    + TAIL_SEQUENCE.len();
 
 /// How many octets the longest CLTU has, that of 147 codeblocks. Memory of so many is never too short
 /// for `Sender::write_cltu`.

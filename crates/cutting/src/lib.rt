@@ -9,6 +9,7 @@ ghost use Rattle.cutting.specs.Cutting.{cutting, is_fill, frame_octets, part_in_
 ghost use Rattle.cutting.specs.Items.{part_of, answered, octets_left, to_cut, first_to_come, rest_to_come, ComesNext};
 ghost use Rattle.cutting.specs.Laws.{CutWhole, CutTillRefused, SentComesBack};
 
+use bch::INFORMATION_OCTETS;
 use cltu::FILL;
 use refusals::Refusal;
 
@@ -20,7 +21,7 @@ pub use cutter::Cutter;
 const HEADER_OCTETS: usize = 5;
 
 // Fill is less than the information of a codeblock.
-const MOST_FILL: usize = 6;
+const MOST_FILL: usize = INFORMATION_OCTETS - 1;
 
 /// What is cut out of a candidate. It borrows its octets from the candidate's.
 #[derive(Clone, Copy, Debug, PartialEq, Eq)]
