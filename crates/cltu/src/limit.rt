@@ -37,7 +37,7 @@ impl CodeblockLimit {
         count: MOST_CODEBLOCKS,
     };
 
-    /// As many codeblocks as any CLTU has, 147. They hold every frame that is not too long for any sender.
+    /// As many codeblocks as any CLTU has, 147. With this limit no frame of 1 to 1,024 octets is refused.
     #[tactic(auto, using(crate::proofs::Longest::refuses_no_frame))]
     pub fn most() -> CodeblockLimit
         ensures value { result.count ≡ 147 }

@@ -4,10 +4,11 @@ use Rattle.std.specs.Int.Digits.{number_from_digits}
 use Rattle.std.specs.List.{list_all}
 use Rattle.cltu.specs.Cltu.{fill_octet}
 
--- The header of a frame, its first five octets, is taken as a number of 40 bits, of which bit 0 is the highest.
+-- the header of a frame is its first five octets
 abbrev pub header_octets : ℕ
 header_octets = 5
 
+-- it is taken as a number of 40 bits, of which bit 0 is the highest
 abbrev pub header : List ℕ → ℕ
 header octets = number_from_digits 256 (take header_octets octets)
 
@@ -22,10 +23,11 @@ version octets = bits 0 1 (header octets)
 abbrev pub length_by_header : List ℕ → ℕ
 length_by_header octets = bits 22 31 (header octets) + 1
 
--- octets that are left of a candidate are fill: at most six, all 55
+-- fill is less than the information of a codeblock
 abbrev pub most_fill : ℕ
 most_fill = 6
 
+-- octets that are left of a candidate are fill: at most six, all 55
 abbrev pub is_fill : List ℕ → Bool
 is_fill left = nat_le (length left) most_fill && list_all (λ x. x == fill_octet) left
 
