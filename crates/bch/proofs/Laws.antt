@@ -1,5 +1,5 @@
--- The laws of wrong bits, for the verdict on a word of 64 bits. Assumes nothing.
-use Rattle.std.proofs.Common.{◌≡◌, ℕ, zero, suc, ◌*◌, ◌/◌, ◌%◌, ◌^◌, ◌<◌, true, false, ◌≢◌, List, sym, refl, ap, ◌∙◌, ap₂, ⊎_elim, pow-suc, arith, shr_lt}
+-- The laws of wrong bits and of the filler, for the verdict on a word of 64 bits. Assumes nothing.
+use Rattle.std.proofs.Common.{◌≡◌, ℕ, zero, suc, ◌*◌, ◌/◌, ◌%◌, ◌^◌, ◌<◌, true, false, ◌≢◌, List, Some, None, Option, sym, refl, ap, ◌∙◌, ap₂, ⊎_elim, pow-suc, arith, shr_lt}
 use lib.Bits.{xor_shr, xor_comm, xor_zero_r, xor_lt}
 use Rattle.std.specs.Int.Digits.{number_from_digits}
 use Rattle.std.proofs.lemmas.Int.Digits.{number_push}
@@ -7,8 +7,8 @@ use Rattle.bch.specs.declared.Mode.{Mode}
 use Rattle.bch.specs.declared.Mode.TheVariants.{Detecting, Correcting}
 use Rattle.bch.specs.Polynomial.{◌⊕◌, weight, remainder}
 use Rattle.bch.specs.Codeblock.{check_bits, Information, sent, information_of}
-use Rattle.bch.specs.Reception.{syndrome_polynomial, power_remainder, wrong_place, turned, accepted, rejected, corrected, judged, verdict, wrong_bits}
-use Rattle.bch.specs.Laws.{UndamagedIsAccepted, OneWrongBitIsCorrected, TwoWrongBitsAreRejected, OneOrThreeWrongBitsAreDetected}
+use Rattle.bch.specs.Reception.{syndrome_polynomial, syndrome, power_remainder, wrong_place, turned, accepted, rejected, corrected, judged, verdict, wrong_bits}
+use Rattle.bch.specs.Laws.{UndamagedIsAccepted, OneWrongBitIsCorrected, TwoWrongBitsAreRejected, OneOrThreeWrongBitsAreDetected, SameButForTheFiller, TheFillerDecidesNothing}
 use Rattle.bch.proofs.Sums.{added_twice, equal_from_sum}
 use Rattle.bch.proofs.Division.{divided_sum, divided_zero}
 use Rattle.bch.proofs.Weights.{weight_none, weight_one, weight_two}
@@ -87,3 +87,32 @@ two_wrong_bits_are_rejected mode word w information h = two_rejected information
 pub one_or_three_wrong_bits_are_detected : (mode : Mode) (word : ℕ) → word < 2 ^ 64 → OneOrThreeWrongBitsAreDetected mode word (verdict mode word)
 one_or_three_wrong_bits_are_detected mode word w information h is few =
     ap (λ m. verdict m word) is ∙ odd_detected information h word w (⊎_elim (λ one. ap (λ x. x % 2) one) (λ three. ap (λ x. x % 2) three) few)
+
+-- two words that differ in the filler alone
+module _ (word other : ℕ) (same : SameButForTheFiller word other) where
+  same_information : information_of word ≡ information_of other
+  same_information = information_from word other same
+
+  same_turned : (d : ℕ) → information_of (turned d word) ≡ information_of (turned d other)
+  same_turned d =
+      information_from (turned d word) (turned d other)
+      (xor_shr word (2 ^ suc d) 1 ∙ ap (λ x. x ⊕ 2 ^ suc d / 2) same ∙ sym (xor_shr other (2 ^ suc d) 1))
+
+  same_corrected : (place : Option ℕ) → corrected word place ≡ corrected other place
+  same_corrected None = refl
+  same_corrected (Some d) = ap (λ x. accepted x true) (same_turned d)
+
+  same_judged : (mode : Mode) (p n : ℕ) → judged mode word p n ≡ judged mode other p n
+  same_judged mode zero zero = ap (λ x. accepted x false) same_information
+  same_judged mode zero (suc n) = refl
+  same_judged Detecting (suc p) n = refl
+  same_judged Correcting (suc p) n = same_corrected (wrong_place n)
+
+  same_syndrome : syndrome word ≡ syndrome other
+  same_syndrome = ap (λ x. (weight 63 (x ⊕ 127) % 2, remainder syndrome_polynomial 6 (x ⊕ 127))) same
+
+  pub same_verdict : (mode : Mode) → verdict mode word ≡ verdict mode other
+  same_verdict mode = same_judged mode (syndrome word).0 (syndrome word).1 ∙ ap (λ s. judged mode other s.0 s.1) same_syndrome
+
+pub the_filler_decides_nothing : (mode : Mode) (word : ℕ) → TheFillerDecidesNothing mode word (verdict mode word)
+the_filler_decides_nothing mode word other same = same_verdict word other same mode

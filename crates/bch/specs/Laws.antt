@@ -1,11 +1,11 @@
--- What the code promises. Of an answer to a received word of 64 bits it speaks over every information that may have been sent and every
--- place of the wrong bits; the filler is not among the first 63 bits, so each law holds whatever the filler. Assumes nothing.
-use Rattle.std.specs.Prelude.{◌≡◌, ℕ, ◌<◌, true, false, ◌≢◌, ◌⊎◌, List, is_some, Some, None, Option, nat_lt}
+-- What the code promises of an answer to a received word of 64 bits: over every information that may have been sent and every place of
+-- the wrong bits, and of the filler. Assumes nothing.
+use Rattle.std.specs.Prelude.{◌≡◌, ℕ, ◌/◌, ◌<◌, true, false, ◌≢◌, ◌⊎◌, List, is_some, Some, None, Option, nat_lt}
 use Rattle.bch.specs.declared.Mode.{Mode}
 use Rattle.bch.specs.declared.Mode.TheVariants.{Detecting, Correcting}
 use Rattle.bch.specs.declared.Accepted.{Accepted}
 use Rattle.bch.specs.Codeblock.{Information, sent}
-use Rattle.bch.specs.Reception.{power_remainder, wrong_bits, accepted, rejected}
+use Rattle.bch.specs.Reception.{power_remainder, wrong_bits, accepted, rejected, verdict}
 
 -- what a wrong place is: the power of X there, and no other below X^63, has the remainder n
 abbrev pub IsTheWrongPlace : ℕ → Option ℕ → Type 0
@@ -35,3 +35,11 @@ OneOrThreeWrongBitsAreDetected mode word answer =
     → mode ≡ Detecting
     → (wrong_bits (sent information) word ≡ 1) ⊎ (wrong_bits (sent information) word ≡ 3)
     → answer ≡ rejected
+
+-- the first 63 bits of two words are the same, so that they differ in the filler alone or not at all
+abbrev pub SameButForTheFiller : ℕ → ℕ → Type 0
+SameButForTheFiller word other = word / 2 ≡ other / 2
+
+-- every word that differs from it in the filler alone has the same verdict
+abbrev pub TheFillerDecidesNothing : Mode → ℕ → Option Accepted → Type 0
+TheFillerDecidesNothing mode word answer = (other : ℕ) → SameButForTheFiller word other → answer ≡ verdict mode other
