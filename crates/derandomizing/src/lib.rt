@@ -9,8 +9,9 @@ ghost use Rattle.derandomizing.specs.Derandomized.{derandomized};
 ghost use Rattle.derandomizing.specs.Apart.{shows_apart};
 ghost use Rattle.derandomizing.specs.Below.{below_of};
 
+use bch::INFORMATION_OCTETS;
 use hold::Hold;
-use randomizer::sequence_octet;
+use randomizer::{PERIOD_OCTETS, sequence_octet};
 use refusals::Refusal;
 
 /// A hold that keeps candidates of a randomizing sender as they were before the sender randomized
@@ -48,7 +49,7 @@ impl<H: Hold> Derandomizing<H> {
 
 // Seven octets with the sequence added, from a place of a candidate on.
 #[tactic(auto, using(crate::proofs::Shown::randomized_more))]
-fn derandomized(mut octets: [u8; 7], place: usize) -> [u8; 7]
+fn derandomized(mut octets: [u8; INFORMATION_OCTETS], place: usize) -> [u8; INFORMATION_OCTETS]
     requires { place < 7 * 255 }
     ensures { result ≡ randomized_from On place octets }
 {
@@ -75,9 +76,9 @@ impl<H: Hold> Hold for Derandomizing<H> {
         self.below.open()
     }
 
-    fn add(&mut self, octets: [u8; 7]) -> Result<(), Refusal> {
-        // The sequence repeats after 255 octets.
-        let place = 7 * (self.below.open_codeblocks() % 255);
+    fn add(&mut self, octets: [u8; INFORMATION_OCTETS]) -> Result<(), Refusal> {
+        // The sequence repeats after a period.
+        let place = INFORMATION_OCTETS * (self.below.open_codeblocks() % PERIOD_OCTETS);
         self.below.add(derandomized(octets, place))
     }
 

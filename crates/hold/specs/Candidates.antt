@@ -6,6 +6,7 @@
 use Rattle.std.specs.Prelude.{◌≡◌, ℕ, suc, ◌+◌, ◌-◌, ◌/◌, ◌%◌, ◌<◌, ◌≤◌, Bool, cond, ◌||◌, List, [], ◌∷◌, ◌++◌, length, take, drop, Some, None, Ok, Err, Option, Result, ◌==◌, bit_xor, nat_le, nat_lt, slice_index}
 use Rattle.refusals.specs.declared.Refusal.{Refusal}
 use Rattle.refusals.specs.declared.Refusal.TheVariants.{MemoryTooShort, NoCandidate, PastCandidateEnd, CandidateOpen, NoCandidateOpen, NoFreeSpace, CandidateEmpty}
+use Rattle.bch.specs.Codeblock.{information_octets}
 use Rattle.randomizer.specs.declared.Randomizer.{Randomizer}
 use Rattle.randomizer.specs.Sequence.{added_at}
 
@@ -32,7 +33,7 @@ Matches showing randomizer = (place x : ℕ) → x < 256 → showing place (bit_
 
 -- codeblocks in a candidate, in the open one, and in all that is finished
 abbrev pub codeblocks_in : Candidate → ℕ
-codeblocks_in candidate = length candidate / 7
+codeblocks_in candidate = length candidate / information_octets
 
 abbrev pub open_codeblocks : Option Candidate → ℕ
 open_codeblocks None = 0
@@ -48,7 +49,7 @@ free_space capacity finished opened = capacity - (finished_codeblocks finished +
 
 -- candidates are whole codeblocks, a finished one has at least one, and all of them together are within the capacity
 abbrev pub Whole : Candidate → Type 0
-Whole candidate = length candidate % 7 ≡ 0
+Whole candidate = length candidate % information_octets ≡ 0
 
 abbrev pub OpenWhole : Option Candidate → Type 0
 OpenWhole None = Unit {0}

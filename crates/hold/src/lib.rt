@@ -4,6 +4,7 @@
 ghost use Rattle.std.specs.Prelude.{◌≡◌, ℕ, ◌≤◌, List, length, None as absent, Ok, Option as Optional};
 ghost use Rattle.hold.specs.Candidates.{Candidate, Showing, ShowsApart, Sound, free_space, open_codeblocks, open_answer, after_open, add_answer, after_add, finish_answer, open_after_finish, finished_after_finish, abandon_answer, release_answer, after_release, oldest_length, oldest_octet, stretch_answer, after_stretch, copy_answer, after_copy};
 
+use bch::INFORMATION_OCTETS;
 use refusals::Refusal;
 
 /// A place where received candidates wait until a reader takes them. A candidate is the octets of
@@ -31,7 +32,7 @@ pub trait Hold {
 
     /// Appends a codeblock to the open candidate, each octet as it shows at its place. Refused with 11
     /// where none is open, and with 12 where there is no free space.
-    fn add(&mut self, octets: [u8; 7]) -> Result<(), Refusal>
+    fn add(&mut self, octets: [u8; INFORMATION_OCTETS]) -> Result<(), Refusal>
         ensures answer { result ≡ add_answer (capacity self.old) (finished self.old) (opened self.old) }
         ensures capacity { capacity self.new ≡ capacity self.old }
         ensures finished { finished self.new ≡ finished self.old }

@@ -25,8 +25,11 @@ impl Randomizer {
     }
 }
 
-// One period of the sequence: the bits repeat after 255, so the octets do too.
-const SEQUENCE: [u8; 255] = *b"\
+/// After so many octets the sequence repeats: its bits do after 255, so its octets do too.
+pub const PERIOD_OCTETS: usize = 255;
+
+// One period of the sequence.
+const SEQUENCE: [u8; PERIOD_OCTETS] = *b"\
     \xFF\x39\x9E\x5A\x68\xE9\x06\xF5\x6C\x89\x2F\xA1\x31\x5E\x08\xC0\x52\
     \xA8\xBB\xAE\x4E\xC2\xC7\xED\x66\xDC\x38\xD4\xF8\x86\x50\x3D\xFE\x73\
     \x3C\xB4\xD1\xD2\x0D\xEA\xD9\x12\x5F\x42\x62\xBC\x11\x80\xA5\x51\x77\
@@ -44,7 +47,7 @@ const SEQUENCE: [u8; 255] = *b"\
     \x60\x29\x54\x5D\xD7\x27\x61\x63\xF6\xB3\x6E\x1C\x6A\x7C\x43\x28\x1E";
 
 // The octet at every place that stands here in its period, from a table of one period.
-fn period_octet(table: &[u8; 255], k: usize) -> u8
+fn period_octet(table: &[u8; PERIOD_OCTETS], k: usize) -> u8
     requires table { table.now ≡ first_octets 255 }
     requires place { k < 255 }
     ensures octet { (place : ℕ) → place % 255 ≡ k → result ≡ sequence_octet place }
@@ -61,5 +64,5 @@ pub fn sequence_octet(place: usize) -> u8
     ensures rule { FollowsTheRule sequence_bit }
     ensures twice { RandomizingTwiceGivesBack }
 {
-    period_octet(&SEQUENCE, place % 255)
+    period_octet(&SEQUENCE, place % PERIOD_OCTETS)
 }
