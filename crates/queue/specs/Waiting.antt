@@ -10,7 +10,7 @@ module _ {X : Type 0} where
   abbrev pub waiting : Queue X → List X
   waiting q = take q.count (in_turn q.slots)
 
-  -- what the free slots hold, that which is filled next first
+  -- what the free slots hold, that whose turn is next first
   abbrev pub free : Queue X → List X
   free q = drop q.count (in_turn q.slots)
 
@@ -31,7 +31,7 @@ module _ {X : Type 0} where
   abbrev pub all_free : List X → Slots X
   all_free held = record { waiting = []; free = held }
 
-  -- these records behind those that wait, each in the free slot that was filled next
+  -- these records behind those that wait, each in the free slot whose turn is next
   abbrev pub with_behind : List X → Slots X → Slots X
   with_behind records slots = record { waiting = slots.waiting ++ records; free = drop (length records) slots.free }
 
