@@ -28,12 +28,15 @@ abbrev pub opened_in : OneCell → Option Candidate
 opened_in cell = opened_with cell.octets cell.held
 
 -- seven octets are one whole codeblock
-sound_with : (octets : Candidate) (held : Held) → length octets ≡ 7 → Sound 1 (finished_with octets held) (opened_with octets held)
+sound_with : (octets : Candidate) (held : Held) → length octets ≡ 7 →
+    Sound 1 (finished_with octets held) (opened_with octets held)
 sound_with octets Nothing seven = record { within = omega arith; finished_whole = tt; open_whole = tt }
 sound_with octets Open seven = record { within = omega arith; finished_whole = tt; open_whole = omega arith }
 sound_with octets Added seven = record { within = omega arith; finished_whole = tt; open_whole = omega arith }
-sound_with octets Finished seven = record { within = omega arith; finished_whole = (omega arith, omega arith, tt); open_whole = tt }
-sound_with octets FinishedAndOpen seven = record { within = omega arith; finished_whole = (omega arith, omega arith, tt); open_whole = omega arith }
+sound_with octets Finished seven =
+    record { within = omega arith; finished_whole = (omega arith, omega arith, tt); open_whole = tt }
+sound_with octets FinishedAndOpen seven =
+    record { within = omega arith; finished_whole = (omega arith, omega arith, tt); open_whole = omega arith }
 
 pub sound_cell : (cell : OneCell) → Sound 1 (finished_in cell) (opened_in cell)
 sound_cell cell = sound_with cell.octets cell.held cell.seven
