@@ -1,20 +1,18 @@
 -- Reports that go into a queue, and those that are lost. Assumes nothing.
-use Rattle.std.proofs.Common.{◌≡◌, ℕ, zero, suc, ◌+◌, ◌-◌, ◌≤◌, min, List, [], ◌∷◌, ◌++◌, length, take, drop, sym, ap, ◌∙◌, ap₂, append_assoc, append-nil, arith}
+use Rattle.std.proofs.Common.{◌≡◌, ℕ, zero, suc, ◌+◌, ◌-◌, ◌≤◌, min, List, [], ◌∷◌, ◌++◌, length, take, sym, ap, ◌∙◌, ap₂, arith}
 use lib.Seq.{take-nil}
-use Rattle.std.proofs.lemmas.List.{length-append, length-take, length-drop, drop-drop}
+use Rattle.std.proofs.lemmas.List.{length-append, length-take, length-drop}
 use Rattle.queue.specs.declared.slots.Queue.{Queue}
-use Rattle.queue.specs.Waiting.{Slots, slots_of, with_behind}
+use Rattle.queue.specs.Waiting.{slots_of, with_behind}
+use Rattle.queue.proofs.Laws.{none_behind, behind_then}
 use Rattle.reception.specs.declared.Report.{Report}
 use Rattle.reception.specs.Calls.{lost_after}
 use Rattle.receiver.specs.Meaning.{free_slots}
 use Rattle.receiver.specs.Events.{Queued}
 
 -- none
-none_behind : (n : ℕ) (s : Slots Report) → s ≡ with_behind (take n []) s
-none_behind n s = sym (ap (λ l. with_behind l s) (take-nil n) ∙ ap (λ l. record { waiting = l; free = s.free }) (append-nil s.waiting))
-
 pub queued_none : (q : Queue Report) → Queued [] q q
-queued_none q = none_behind (free_slots q) (slots_of q)
+queued_none q = sym (ap (λ l. with_behind l (slots_of q)) (take-nil (free_slots q)) ∙ none_behind (slots_of q))
 
 pub lost_none : (free lost : ℕ) → lost ≤ 65535 → lost ≡ lost_after free lost []
 lost_none free lost few = omega arith
@@ -34,11 +32,6 @@ take_append (suc n) (x ∷ xs) ys = ap (λ l. x ∷ l) (take_append n xs ys ∙ 
     less : (n m : ℕ) → n - m ≡ suc n - suc m
     less n m = omega arith
 
-both_behind : (xs ys : List Report) (s : Slots Report) → with_behind ys (with_behind xs s) ≡ with_behind (xs ++ ys) s
-both_behind xs ys s =
-    ap₂ (λ w f. record { waiting = w; free = f }) (append_assoc s.waiting xs ys)
-    (drop-drop (length ys) (length xs) s.free ∙ ap (λ n. drop n s.free) (sym (length-append xs ys)))
-
 pub fewer_slots : (xs : List Report) (q later : Queue Report) → Queued xs q later → free_slots later ≡ free_slots q - length xs
 fewer_slots xs q later w =
     omega (arith, ap (λ s. length s.free) w, length-drop (length (take (free_slots q) xs)) (slots_of q).free, length-take (free_slots q) xs)
@@ -46,7 +39,7 @@ fewer_slots xs q later w =
 pub queued_then : (xs ys : List Report) (q mid later : Queue Report) → Queued xs q mid → Queued ys mid later → Queued (xs ++ ys) q later
 queued_then xs ys q mid later first second =
     second ∙ ap₂ (λ n s. with_behind (take n ys) s) (fewer_slots xs q mid first) first
-    ∙ both_behind (take (free_slots q) xs) (take (free_slots q - length xs) ys) (slots_of q)
+    ∙ behind_then (take (free_slots q) xs) (take (free_slots q - length xs) ys) (slots_of q)
     ∙ ap (λ l. with_behind l (slots_of q)) (sym (take_append (free_slots q) xs ys))
 
 pub lost_then : (free left lost : ℕ) (xs ys : List Report) → left ≡ free - length xs → lost_after left (lost_after free lost xs) ys ≡ lost_after free lost (xs ++ ys)
