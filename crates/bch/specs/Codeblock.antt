@@ -15,9 +15,16 @@ complemented bits = bits ⊕ 0b1111111
 abbrev pub check_bits : ℕ → ℕ
 check_bits i = complemented (remainder generator 7 (2 ^ 7 * i))
 
--- information is seven octets
+-- a codeblock has seven octets of information
+abbrev pub information_octets : ℕ
+information_octets = 7
+
+-- and one octet more, of seven check bits and the filler
+abbrev pub codeblock_octets : ℕ
+codeblock_octets = 8
+
 abbrev pub Information : List ℕ → Type 0
-Information octets = (length octets ≡ 7) × AllBelowBase 256 octets
+Information octets = (length octets ≡ information_octets) × AllBelowBase 256 octets
 
 -- the codeblock of seven octets: these, and an octet of the check bits and the filler
 abbrev pub codeblock : List ℕ → List ℕ

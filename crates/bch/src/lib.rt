@@ -3,6 +3,12 @@
 //! functions that fly are in the crate `coding`.
 #![tactic(auto)]
 
+/// How many octets of information a codeblock has.
+pub const INFORMATION_OCTETS: usize = 7;
+
+/// How many octets a codeblock has: its information, and one of the check bits and the filler.
+pub const CODEBLOCK_OCTETS: usize = 8;
+
 /// How a receiver treats wrong bits.
 #[derive(Clone, Copy, Debug, PartialEq, Eq)]
 pub enum Mode {
@@ -16,7 +22,7 @@ pub enum Mode {
 #[derive(Clone, Copy, Debug, PartialEq, Eq)]
 pub struct Accepted {
     /// The seven octets of information.
-    pub information: [u8; 7],
+    pub information: [u8; INFORMATION_OCTETS],
     /// Whether a bit was turned, also one of the check bits.
     pub corrected: bool,
 }

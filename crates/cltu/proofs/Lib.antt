@@ -1,2 +1,3 @@
 -- Laws of CLTUs. Assumes nothing.
 pub mod Places
+pub mod Longest

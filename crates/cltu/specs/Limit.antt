@@ -9,9 +9,13 @@ abbrev pub made_count : Result CodeblockLimit Refusal → Result ℕ Refusal
 made_count (Ok limit) = Ok limit.count
 made_count (Err refusal) = Err refusal
 
--- 1 to 147, and anything else is refused
+-- a CLTU has at most 147 codeblocks
+abbrev pub most_codeblocks : ℕ
+most_codeblocks = 147
+
+-- from 1 to that many, and anything else is refused
 abbrev pub limit_answer : ℕ → Result ℕ Refusal
-limit_answer count = cond (nat_le 1 count && nat_le count 147) (Ok count) (Err OutOfRange)
+limit_answer count = cond (nat_le 1 count && nat_le count most_codeblocks) (Ok count) (Err OutOfRange)
 
 -- a conversion of a count made what its value answers
 abbrev pub MadeOf : ℕ → Result CodeblockLimit Refusal → Type 0

@@ -3,9 +3,11 @@
 
 ghost use Rattle.std.specs.Prelude.{◌≡◌, ◌+◌, ◌*◌, ◌<◌, ◌≤◌, length, take, drop, slice_index};
 ghost use Rattle.randomizer.specs.Sequence.{randomized};
-ghost use Rattle.cltu.specs.Cltu.{codeblocks_for, LeastThatHolds, filled, coded, cltu};
-ghost use Rattle.cltu.specs.Writing.{frame_refused, length_answer, LengthOf, writing_answer, memory_after};
+ghost use Rattle.bch.specs.Codeblock.{information_octets, codeblock_octets};
+ghost use Rattle.cltu.specs.Cltu.{longest_frame, codeblocks_for, LeastThatHolds, filled, coded, cltu};
+ghost use Rattle.cltu.specs.Writing.{frame_refused, cltu_octets, length_answer, LengthOf, writing_answer, memory_after, NoCltuIsLonger, IsNeverTooShort};
 
+use bch::{CODEBLOCK_OCTETS, INFORMATION_OCTETS};
 use coding::codeblock;
 use randomizer::Randomizer;
 use refusals::Refusal;
@@ -13,6 +15,7 @@ use refusals::Refusal;
 mod limit;
 
 pub use limit::CodeblockLimit;
+use limit::MOST_CODEBLOCKS;
 
 /// What a sender's CLTUs have in common.
 #[derive(Clone, Copy, Debug, PartialEq, Eq)]
@@ -28,17 +31,35 @@ pub fn codeblocks_for(octets: usize) -> usize
     ensures value { result ≡ codeblocks_for octets }
     ensures least { LeastThatHolds octets result }
 {
-    octets.div_ceil(7)
+    octets.div_ceil(INFORMATION_OCTETS)
 }
 
-/// How many octets the longest CLTU has, that of 147 codeblocks.
-pub const LONGEST_CLTU: usize = 1186;
+/// How many octets a frame has at most.
+pub const LONGEST_FRAME: usize = 1024;
+
+/// How many octets the longest CLTU has, 1,186. It is for the length of an array: a constant has no
+/// contract, so take `longest_cltu` where a call will do.
+pub const LONGEST_CLTU: usize = START_SEQUENCE.len()
+    + CODEBLOCK_OCTETS * MOST_CODEBLOCKS
+    + TAIL_SEQUENCE.len();
+
+/// How many octets the longest CLTU has, that of 147 codeblocks. Memory of so many is never too short
+/// for `Sender::write_cltu`.
+#[tactic(auto, using(crate::proofs::Longest::no_cltu_is_longer, crate::proofs::Longest::is_never_too_short))]
+pub fn longest_cltu() -> usize
+    ensures value { result ≡ 1186 }
+    ensures longest { NoCltuIsLonger result }
+    ensures suffices { IsNeverTooShort result }
+{
+    LONGEST_CLTU
+}
 
 const START_SEQUENCE: [u8; 2] = [0xEB, 0x90];
 
 const TAIL_SEQUENCE: [u8; 8] = [0xC5, 0xC5, 0xC5, 0xC5, 0xC5, 0xC5, 0xC5, 0x79];
 
-const FILL: u8 = 0x55;
+/// The octet with which a frame is lengthened to whole codeblocks.
+pub const FILL: u8 = 0x55;
 
 /// A frame that a sender takes, and how many codeblocks its CLTU has.
 #[derive(Clone, Copy)]
@@ -47,13 +68,13 @@ struct Outgoing<'a> {
     randomizer: Randomizer,
     // How many codeblocks hold the frame.
     codeblocks: usize,
-    ghost short: { length frame.now ≤ 1024 },
+    ghost short: { length frame.now ≤ longest_frame },
     ghost whole: { codeblocks ≡ codeblocks_for (length frame.now) },
 }
 
 impl<'a> Outgoing<'a> {
     fn new(frame: &'a [u8], randomizer: Randomizer) -> Self
-        requires { length frame.now ≤ 1024 }
+        requires { length frame.now ≤ longest_frame }
         ensures frame { result.frame.now ≡ frame.now }
         ensures randomizer { result.randomizer ≡ randomizer }
     {
@@ -66,19 +87,19 @@ impl<'a> Outgoing<'a> {
 
     // The octet at a place of the filled and randomized frame.
     fn octet(&self, place: usize) -> u8
-        requires { place < 7 * self.now.codeblocks }
+        requires { place < information_octets * self.now.codeblocks }
         ensures { result ≡ slice_index (randomized self.now.randomizer (filled self.now.frame.now)) place }
     {
         self.frame.get(place).copied().unwrap_or(FILL) ^ self.randomizer.octet_at(place)
     }
 
     // The information of the codeblock at an index: seven octets of the filled and randomized frame.
-    fn information(&self, index: usize) -> [u8; 7]
+    fn information(&self, index: usize) -> [u8; INFORMATION_OCTETS]
         requires { index < self.now.codeblocks }
-        ensures { result ≡ take 7 (drop (7 * index) (randomized self.now.randomizer (filled self.now.frame.now))) }
+        ensures { result ≡ take information_octets (drop (information_octets * index) (randomized self.now.randomizer (filled self.now.frame.now))) }
     {
         // Written out: by `array::from_fn` a frame takes some 4 in a hundred longer to write.
-        let first = 7 * index;
+        let first = INFORMATION_OCTETS * index;
         [
             self.octet(first),
             self.octet(first + 1),
@@ -92,23 +113,23 @@ impl<'a> Outgoing<'a> {
 
     // Puts the codeblocks into memory for just these.
     fn put_codeblocks(&self, memory: &mut [u8])
-        requires { length memory.old ≡ 8 * self.now.codeblocks }
+        requires { length memory.old ≡ codeblock_octets * self.now.codeblocks }
         ensures { memory.new ≡ coded self.now.codeblocks (randomized self.now.randomizer (filled self.now.frame.now)) }
     {
         // By index: after a loop over `chunks_exact_mut` the checker knows of no octet that it wrote.
         for index in 0..self.codeblocks {
-            let at = 8 * index;
-            memory[at..at + 8].copy_from_slice(&codeblock(self.information(index)));
+            let at = CODEBLOCK_OCTETS * index;
+            memory[at..at + CODEBLOCK_OCTETS].copy_from_slice(&codeblock(self.information(index)));
         }
     }
 
     /// Puts the CLTU into memory for just it.
     fn put_cltu(&self, memory: &mut [u8])
-        requires { length memory.old ≡ 10 + 8 * self.now.codeblocks }
+        requires { length memory.old ≡ cltu_octets (length self.now.frame.now) }
         ensures { memory.new ≡ cltu self.now.randomizer self.now.frame.now }
     {
         let (start, rest) = memory.split_at_mut(START_SEQUENCE.len());
-        let (codeblocks, tail) = rest.split_at_mut(8 * self.codeblocks);
+        let (codeblocks, tail) = rest.split_at_mut(CODEBLOCK_OCTETS * self.codeblocks);
         start.copy_from_slice(&START_SEQUENCE);
         self.put_codeblocks(codeblocks);
         tail.copy_from_slice(&TAIL_SEQUENCE);
@@ -120,7 +141,7 @@ impl Sender {
     fn refuses(self, octets: usize) -> bool
         ensures { result ≡ frame_refused self.limit.count octets }
     {
-        !(1..=1024).contains(&octets) || octets > 7 * self.limit.count()
+        !(1..=LONGEST_FRAME).contains(&octets) || octets > INFORMATION_OCTETS * self.limit.count()
     }
 
     /// How many octets the CLTU of a frame of so many octets has. Refused with 1 where the frame is empty, has
@@ -133,7 +154,7 @@ impl Sender {
         if self.refuses(octets) {
             return Err(Refusal::FrameLength);
         }
-        Ok(START_SEQUENCE.len() + 8 * codeblocks_for(octets) + TAIL_SEQUENCE.len())
+        Ok(START_SEQUENCE.len() + CODEBLOCK_OCTETS * codeblocks_for(octets) + TAIL_SEQUENCE.len())
     }
 
     /// Writes the CLTU of a frame at the front of the memory and answers how many octets it has.

@@ -2,6 +2,9 @@ ghost use Rattle.std.specs.Prelude.{◌≡◌, ◌≤◌};
 
 use refusals::Refusal;
 
+/// How many codeblocks a CLTU has at most.
+pub(crate) const MOST_CODEBLOCKS: usize = 147;
+
 /// The greatest count of codeblocks in a CLTU, from 1 to 147.
 #[derive(Clone, Copy, Debug, PartialEq, Eq)]
 pub struct CodeblockLimit {
@@ -18,7 +21,7 @@ impl TryFrom<usize> for CodeblockLimit {
     ghost try_from_gives = { MadeOf };
 
     fn try_from(count: usize) -> Result<Self, Refusal> {
-        if (1..=Self::MOST.count).contains(&count) {
+        if (1..=MOST_CODEBLOCKS).contains(&count) {
             Ok(CodeblockLimit { count })
         } else {
             Err(Refusal::CodeblockLimit)
@@ -27,8 +30,21 @@ impl TryFrom<usize> for CodeblockLimit {
 }
 
 impl CodeblockLimit {
-    /// As many codeblocks as any CLTU has.
-    pub const MOST: CodeblockLimit = CodeblockLimit { count: 147 };
+    ghost use Rattle.cltu.specs.Writing.{RefusesNoFrame};
+
+    /// As many codeblocks as any CLTU has. A constant has no contract: take `most` where a call will do.
+    pub const MOST: CodeblockLimit = CodeblockLimit {
+        count: MOST_CODEBLOCKS,
+    };
+
+    /// As many codeblocks as any CLTU has, 147. With this limit no frame of 1 to 1,024 octets is refused.
+    #[tactic(auto, using(crate::proofs::Longest::refuses_no_frame))]
+    pub fn most() -> CodeblockLimit
+        ensures value { result.count ≡ 147 }
+        ensures takes { RefusesNoFrame result.count }
+    {
+        Self::MOST
+    }
 
     /// The count.
     pub fn count(self) -> usize

@@ -9,7 +9,18 @@ ghost use Rattle.bch.specs.Codeblock.{generator, complemented, check_bits, codeb
 ghost use Rattle.bch.specs.Reception.{syndrome_polynomial, received, syndrome, place_from, wrong_place, turned, accepted, judged, verdict};
 ghost use Rattle.bch.specs.Laws.{IsTheWrongPlace, AbsentOnlyAtZero, UndamagedIsAccepted, OneWrongBitIsCorrected, TwoWrongBitsAreRejected, OneOrThreeWrongBitsAreDetected, TheFillerDecidesNothing};
 
-use bch::{Accepted, Mode};
+use bch::{Accepted, CODEBLOCK_OCTETS, INFORMATION_OCTETS, Mode};
+
+// The bits before the filler are the coefficients of X^0 to X^62.
+const DEGREES: u8 = 63;
+
+// A polynomial with the coefficients of X^0 to X^6, each 1.
+const SEVEN_ONES: u8 = 0x7F;
+
+const X_TO_THE_6: u8 = 0x40;
+
+// X^6 + X + 1.
+const SYNDROME_POLYNOMIAL: u8 = 0x43;
 
 // The seven coefficients of a polynomial of degree at most 6, that of X^6 highest.
 #[derive(Clone, Copy)]
@@ -31,7 +42,7 @@ impl Coefficients {
         ensures { result.bits ≡ complemented self.bits }
     {
         Coefficients {
-            bits: self.bits ^ 0x7F,
+            bits: self.bits ^ SEVEN_ONES,
         }
     }
 
@@ -55,10 +66,10 @@ impl Coefficients {
         ensures value { result ≡ remainder_by syndrome_polynomial 6 self.bits }
         ensures number { (p : ℕ) → p < 2 ^ 63 → self.bits ≡ remainder_by generator 7 p → result ≡ remainder_by syndrome_polynomial 6 p }
     {
-        if self.bits < 0x40 {
+        if self.bits < X_TO_THE_6 {
             self.bits
         } else {
-            self.bits ^ 0x43
+            self.bits ^ SYNDROME_POLYNOMIAL
         }
     }
 }
@@ -90,7 +101,7 @@ fn octet_remainder(v: u8) -> u8
 
 // The remainder of X^7 · I(X) by X^7 + X^6 + X^2 + 1: each octet makes of the remainder r that of
 // X^8 · r(X) + X^7 · v(X), and that is X^7 times a polynomial of eight coefficients.
-fn information_remainder(information: &[u8; 7]) -> Coefficients
+fn information_remainder(information: &[u8; INFORMATION_OCTETS]) -> Coefficients
     ensures { result.bits ≡ remainder_by generator 7 (2 ^ 7 * number_from_digits 256 information.now) }
 {
     let mut bits: u8 = 0;
@@ -101,31 +112,31 @@ fn information_remainder(information: &[u8; 7]) -> Coefficients
 }
 
 // The check bits and the filler.
-fn check_octet(information: &[u8; 7]) -> u8
+fn check_octet(information: &[u8; INFORMATION_OCTETS]) -> u8
     ensures { result ≡ 2 * check_bits (number_from_digits 256 information.now) }
 {
     let remainder = information_remainder(information);
     remainder.complemented().with_filler()
 }
 
-fn followed_by(information: [u8; 7], last: u8) -> [u8; 8]
+fn followed_by(information: [u8; INFORMATION_OCTETS], last: u8) -> [u8; CODEBLOCK_OCTETS]
     ensures { result ≡ information ++ last ∷ [] }
 {
-    let mut octets = [last; 8];
-    octets[..7].copy_from_slice(&information);
+    let mut octets = [last; CODEBLOCK_OCTETS];
+    octets[..INFORMATION_OCTETS].copy_from_slice(&information);
     octets
 }
 
 /// The codeblock of seven octets of information: these, and an octet of seven check bits and the
 /// filler bit 0.
-pub fn codeblock(information: [u8; 7]) -> [u8; 8]
+pub fn codeblock(information: [u8; INFORMATION_OCTETS]) -> [u8; CODEBLOCK_OCTETS]
     ensures { result ≡ codeblock information }
 {
     followed_by(information, check_octet(&information))
 }
 
 // The first seven octets of a received word. `[information @ .., _]` gets no proof at an array.
-fn information_in(word: u64) -> [u8; 7]
+fn information_in(word: u64) -> [u8; INFORMATION_OCTETS]
     ensures { result ≡ information_of word }
 {
     let [a, b, c, d, e, f, g, _] = word.to_be_bytes();
@@ -187,7 +198,7 @@ pub fn wrong_place(number: u8) -> Option<u8>
     ensures place { IsTheWrongPlace number result }
     ensures absent { AbsentOnlyAtZero number result }
 {
-    first_place(number, 63)
+    first_place(number, DEGREES)
 }
 
 fn accepted(word: u64, corrected: bool) -> Accepted

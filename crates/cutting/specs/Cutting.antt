@@ -2,10 +2,15 @@
 use Rattle.std.specs.Prelude.{ℕ, zero, suc, ◌+◌, ◌-◌, ◌/◌, ◌%◌, ◌^◌, Bool, cond, ◌&&◌, ◌==◌, nat_le, List, [], ◌∷◌, length, take, Option, Some, None}
 use Rattle.std.specs.Int.Digits.{number_from_digits}
 use Rattle.std.specs.List.{list_all}
+use Rattle.cltu.specs.Cltu.{fill_octet}
 
--- The header of a frame, its first five octets, is taken as a number of 40 bits, of which bit 0 is the highest.
+-- the header of a frame is its first five octets
+abbrev pub header_octets : ℕ
+header_octets = 5
+
+-- it is taken as a number of 40 bits, of which bit 0 is the highest
 abbrev pub header : List ℕ → ℕ
-header octets = number_from_digits 256 (take 5 octets)
+header octets = number_from_digits 256 (take header_octets octets)
 
 -- the number in some bits of a header, from a first to a last one
 abbrev pub bits : (first last : ℕ) → ℕ → ℕ
@@ -18,13 +23,17 @@ version octets = bits 0 1 (header octets)
 abbrev pub length_by_header : List ℕ → ℕ
 length_by_header octets = bits 22 31 (header octets) + 1
 
+-- fill is less than the information of a codeblock
+abbrev pub most_fill : ℕ
+most_fill = 6
+
 -- octets that are left of a candidate are fill: at most six, all 55
 abbrev pub is_fill : List ℕ → Bool
-is_fill left = nat_le (length left) 6 && list_all (λ x. x == 0x55) left
+is_fill left = nat_le (length left) most_fill && list_all (λ x. x == fill_octet) left
 
 -- they begin with a frame: of version 00, and with as many octets as its header tells, five at least
 abbrev pub is_frame_in_front : List ℕ → Bool
-is_frame_in_front left = version left == 0 && (nat_le 5 (length_by_header left) && nat_le (length_by_header left) (length left))
+is_frame_in_front left = version left == 0 && (nat_le header_octets (length_by_header left) && nat_le (length_by_header left) (length left))
 
 -- of how many octets that frame is
 abbrev pub frame_octets : List ℕ → Option ℕ

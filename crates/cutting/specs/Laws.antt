@@ -1,20 +1,20 @@
 -- What is promised of cutting: the parts lie end to end and are the candidate, and what a sender sent comes back. Assumes nothing.
 use Rattle.std.specs.Prelude.{◌≡◌, ℕ, ◌+◌, ◌<◌, ◌≤◌, List, [], ◌∷◌, ◌++◌, length, take, drop, replicate, Some, None}
 use Rattle.std.specs.List.{flat_map, AllByRecursion}
-use Rattle.cltu.specs.Cltu.{fill_for, filled}
-use Rattle.cutting.specs.Cutting.{version, length_by_header, Kind, frame, fill, Part, part, cutting}
+use Rattle.cltu.specs.Cltu.{fill_octet, fill_for, filled}
+use Rattle.cutting.specs.Cutting.{header_octets, version, length_by_header, most_fill, Kind, frame, fill, Part, part, cutting}
 
 -- octets are a frame: of version 00, and as many as the header tells, five at least
 pub record IsFrame (octets : List ℕ) : Type 0 where
   pub version_00 : version octets ≡ 0
-  pub least : 5 ≤ length octets
+  pub least : header_octets ≤ length octets
   pub told : length_by_header octets ≡ length octets
 
 -- octets are fill: one to six, each 55
 pub record IsFill (octets : List ℕ) : Type 0 where
   pub some : 0 < length octets
-  pub most : length octets ≤ 6
-  pub each : AllByRecursion (λ x. x ≡ 0x55) octets
+  pub most : length octets ≤ most_fill
+  pub each : AllByRecursion (λ x. x ≡ fill_octet) octets
 
 abbrev pub IsOfKind : Kind → List ℕ → Type 0
 IsOfKind frame octets = IsFrame octets
@@ -79,7 +79,7 @@ end_to_end frames = flat_map (λ octets. octets) frames
 abbrev pub ComesBack : List (List ℕ) → Type 0
 ComesBack frames =
     let sent = end_to_end frames in
-    cutting (filled sent) ≡ record { parts = frames_from 0 frames ++ fill_from (length sent) (replicate (fill_for (length sent)) 0x55); refused_at = None }
+    cutting (filled sent) ≡ record { parts = frames_from 0 frames ++ fill_from (length sent) (replicate (fill_for (length sent)) fill_octet); refused_at = None }
 
 abbrev pub SentComesBack : Type 0
 SentComesBack = (frames : List (List ℕ)) → AllByRecursion IsFrame frames → ComesBack frames

@@ -4,17 +4,24 @@
 ghost use Rattle.std.specs.Prelude.{◌≡◌, ◌+◌, ◌<◌, ◌==◌, length, drop, IfSome, OnSome, IfOk, OnErr};
 ghost use Rattle.std.specs.List.{list_all};
 ghost use Rattle.std.specs.Option.{option_map};
+ghost use Rattle.cltu.specs.Cltu.{fill_octet};
 ghost use Rattle.cutting.specs.Cutting.{cutting, is_fill, frame_octets, part_in_front};
 ghost use Rattle.cutting.specs.Items.{part_of, answered, octets_left, to_cut, first_to_come, rest_to_come, ComesNext};
 ghost use Rattle.cutting.specs.Laws.{CutWhole, CutTillRefused, SentComesBack};
 
+use bch::INFORMATION_OCTETS;
+use cltu::FILL;
 use refusals::Refusal;
 
 mod cutter;
 
 pub use cutter::Cutter;
 
-const FILL: u8 = 0x55;
+// The header of a transfer frame.
+const HEADER_OCTETS: usize = 5;
+
+// Fill is less than the information of a codeblock.
+const MOST_FILL: usize = INFORMATION_OCTETS - 1;
 
 /// What is cut out of a candidate. It borrows its octets from the candidate's.
 #[derive(Clone, Copy, Debug, PartialEq, Eq)]
@@ -47,7 +54,7 @@ impl Item<'_> {
 
 // Whether each of the octets is one of fill.
 fn is_each_fill(octets: &[u8]) -> bool
-    ensures { result ≡ list_all (λ x. x == 0x55) octets.now }
+    ensures { result ≡ list_all (λ x. x == fill_octet) octets.now }
 {
     octets.iter().all(|&octet| octet == FILL)
 }
@@ -56,7 +63,7 @@ fn is_each_fill(octets: &[u8]) -> bool
 fn is_fill(left: &[u8]) -> bool
     ensures { result ≡ is_fill left.now }
 {
-    left.len() <= 6 && is_each_fill(left)
+    left.len() <= MOST_FILL && is_each_fill(left)
 }
 
 // How many octets the frame has that octets begin with, if they begin with a frame.
@@ -64,12 +71,23 @@ fn is_fill(left: &[u8]) -> bool
 fn frame_octets(left: &[u8]) -> Option<usize>
     ensures { result ≡ frame_octets left.now }
 {
-    // The five octets of the header, and what follows it.
-    let [first, _, third, fourth, _, rest @ ..] = left else {
+    // The five octets of the header, each named by the fields in it, and what follows the header.
+    let [
+        version_flags_spacecraft_high,
+        _spacecraft_low,
+        channel_length_high,
+        length_low,
+        _sequence_number,
+        rest @ ..,
+    ] = left
+    else {
         return None;
     };
-    let octets = 256 * usize::from(third % 4) + usize::from(*fourth) + 1;
-    let is_frame = first / 64 == 0 && 5 <= octets && octets - 5 <= rest.len();
+    let version = version_flags_spacecraft_high / 64;
+    let length = 256 * usize::from(channel_length_high % 4) + usize::from(*length_low);
+    // The length is one less than the frame has octets.
+    let octets = length + 1;
+    let is_frame = version == 0 && HEADER_OCTETS <= octets && octets - HEADER_OCTETS <= rest.len();
     is_frame.then_some(octets)
 }
 

@@ -51,7 +51,7 @@ fn encode(
     randomizer: Randomizer,
 ) -> anyhow::Result<()> {
     let sender = Sender {
-        limit: CodeblockLimit::MOST,
+        limit: CodeblockLimit::most(),
         randomizer,
     };
     let heap = rt.alloc();

@@ -1,18 +1,15 @@
 -- The answer to a line of text with a frame in it, and the line that tells it. Assumes nothing.
-use Rattle.std.specs.Prelude.{◌≡◌, ℕ, Bool, true, false, List, ◌++◌, length, replicate, Some, None, Ok, Err, string_bytes, codes, decimal, Option, Result}
+use Rattle.std.specs.Prelude.{◌≡◌, ◌≢◌, ℕ, Bool, true, false, List, ◌++◌, length, Some, None, Ok, Err, string_bytes, codes, decimal, Option, Result}
 use Rattle.std.specs.Option.{option_map}
 use Rattle.refusals.specs.declared.Refusal.{Refusal}
+use Rattle.refusals.specs.declared.Refusal.TheVariants.{MemoryTooShort}
 use Rattle.refusals.specs.Numbers.{refusal_text}
 use Rattle.cltu.specs.declared.Sender.{Sender}
 use Rattle.cltu.specs.Cltu.{codeblocks_for, fill_for}
-use Rattle.cltu.specs.Writing.{sent_cltu, writing_answer}
+use Rattle.cltu.specs.Writing.{sent_cltu, length_answer}
 use Rattle.frame_lines.specs.declared.Answer.{Answer}
 use Rattle.frame_lines.specs.declared.Answer.TheVariants.{Cltu, Refused, Unreadable}
 use Rattle.hexadecimal.specs.Text.{capital_digits}
-
--- memory for the longest CLTU, that of 147 codeblocks
-abbrev pub longest : List ℕ
-longest = replicate 1186 0
 
 -- `cltu`, the codeblocks, the fill octets, the octets and all of these in digits
 abbrev pub cltu_text : (codeblocks fill octets : ℕ) (digits : List ℕ) → List ℕ
@@ -28,7 +25,7 @@ frame_line sender frame (Err refusal) = refusal_text refusal
 -- the answer to a line
 abbrev pub answer_line : Sender → Option (List ℕ) → List ℕ
 answer_line sender None = codes "unreadable"
-answer_line sender (Some frame) = frame_line sender frame (writing_answer sender frame longest)
+answer_line sender (Some frame) = frame_line sender frame (length_answer sender (length frame))
 
 -- whether a line is answered by a CLTU
 abbrev pub sent : Result ℕ Refusal → Bool
@@ -37,7 +34,7 @@ sent (Err refusal) = false
 
 abbrev pub answered_by_cltu : Sender → Option (List ℕ) → Bool
 answered_by_cltu sender None = false
-answered_by_cltu sender (Some frame) = sent (writing_answer sender frame longest)
+answered_by_cltu sender (Some frame) = sent (length_answer sender (length frame))
 
 -- the line that an answer prints as
 abbrev pub answer_text : Answer → List ℕ
@@ -60,4 +57,8 @@ outcome Unreadable = None
 pub record Answers (sender : Sender) (frame : Option (List ℕ)) (answer : Answer) : Type 0 where
   pub text : answer_text answer ≡ answer_line sender frame
   pub kind : is_cltu answer ≡ answered_by_cltu sender frame
-  pub came_to : outcome answer ≡ option_map (λ f. writing_answer sender f longest) frame
+  pub came_to : outcome answer ≡ option_map (λ f. length_answer sender (length f)) frame
+
+-- it is never refusal 2: the memory in which a CLTU is written is never too short
+abbrev pub IsNeverTooShort : Answer → Type 0
+IsNeverTooShort answer = outcome answer ≢ Some (Err MemoryTooShort)

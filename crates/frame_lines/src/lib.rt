@@ -3,8 +3,9 @@
 
 ghost use Rattle.std.specs.Prelude.{IfOk, Some};
 ghost use Rattle.hexadecimal.specs.Text.{octets_written};
-ghost use Rattle.frame_lines.specs.Lines.{Answers, answer_text};
+ghost use Rattle.frame_lines.specs.Lines.{Answers, IsNeverTooShort, answer_text};
 
+use bch::INFORMATION_OCTETS;
 use cltu::{LONGEST_CLTU, Sender, codeblocks_for};
 use hexadecimal::{capitals, read_octets};
 use refusals::Refusal;
@@ -48,6 +49,7 @@ impl fmt::Display for Answer {
     }
 }
 
+#[tactic(auto, using(crate::proofs::Memory::in_the_memory))]
 fn frame_answer(heap: Global, sender: Sender, frame: &[u8]) -> Result<Answer, AllocError>
     ensures { IfOk result (λ a. Answers sender (Some frame.now) a) }
 {
@@ -57,7 +59,7 @@ fn frame_answer(heap: Global, sender: Sender, frame: &[u8]) -> Result<Answer, Al
             let codeblocks = codeblocks_for(frame.len());
             Ok(Answer::Cltu {
                 codeblocks,
-                fill: 7 * codeblocks - frame.len(),
+                fill: INFORMATION_OCTETS * codeblocks - frame.len(),
                 octets,
                 digits: capitals(heap, &memory[..octets])?,
             })
@@ -68,9 +70,12 @@ fn frame_answer(heap: Global, sender: Sender, frame: &[u8]) -> Result<Answer, Al
 
 /// The answer to a line of text, given without its end: `cltu` with the count of codeblocks, of fill
 /// octets and of octets, and the octets; `refused` and the number where the sender refuses the
-/// frame; `unreadable` where the line is not whole octets of hexadecimal digits.
+/// frame; `unreadable` where the line is not whole octets of hexadecimal digits. The number is always 1:
+/// 2, memory too short, never comes.
+#[tactic(auto, using(crate::proofs::Memory::never_too_short))]
 pub fn answer_line(heap: Global, sender: Sender, line: &[u8]) -> Result<Answer, AllocError>
-    ensures { IfOk result (λ a. Answers sender (octets_written line.now) a) }
+    ensures answer { IfOk result (λ a. Answers sender (octets_written line.now) a) }
+    ensures memory { IfOk result IsNeverTooShort }
 {
     match read_octets(heap, line)? {
         Some(frame) => frame_answer(heap, sender, frame.as_slice()),
@@ -89,7 +94,7 @@ mod tests {
     fn randomizer_and_limit(rt: HostRuntime) -> Result<(), Fail> {
         let heap = rt.alloc();
         let random = Sender {
-            limit: CodeblockLimit::MOST,
+            limit: CodeblockLimit::most(),
             randomizer: Randomizer::On,
         };
         let answer = answer_line(heap, random, b"00")?;

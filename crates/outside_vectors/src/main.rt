@@ -1,7 +1,7 @@
 //! Runs the code on test vectors that an unrelated encoder made: see vectors/README.md.
 #![tactic(auto)]
 
-use bch::{Accepted, Mode};
+use bch::{Accepted, INFORMATION_OCTETS, Mode};
 use coding::{codeblock, judge, syndrome, wrong_place};
 use hexadecimal::{capitals, read_octets};
 use std::alloc::{AllocError, Global};
@@ -10,7 +10,7 @@ use std::alloc::{AllocError, Global};
 #[derive(Clone, Copy)]
 enum Question {
     /// The codeblock of this information.
-    Code([u8; 7]),
+    Code([u8; INFORMATION_OCTETS]),
     /// What is made of this word.
     Word(u64),
 }

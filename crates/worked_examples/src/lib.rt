@@ -2,16 +2,17 @@
 #![tactic(auto)]
 
 ghost use Rattle.std.specs.Prelude.{◌≡◌, true, ◌==◌, slice_index};
-ghost use Rattle.bch.specs.Codeblock.{codeblock};
+ghost use Rattle.bch.specs.Codeblock.{information_octets, codeblock};
 ghost use Rattle.worked_examples.specs.Worked.{WorkedExamples};
 
+use bch::INFORMATION_OCTETS;
 use coding::codeblock;
 
 // Whether the codeblock of this information ends with this octet.
-fn ends_with(information: [u8; 7], last: u8) -> bool
-    ensures { result ≡ (slice_index (codeblock information) 7 == last) }
+fn ends_with(information: [u8; INFORMATION_OCTETS], last: u8) -> bool
+    ensures { result ≡ (slice_index (codeblock information) information_octets == last) }
 {
-    codeblock(information)[7] == last
+    codeblock(information)[INFORMATION_OCTETS] == last
 }
 
 /// Whether the code gives what was worked out by hand for four codeblocks. It always does; a unit
@@ -21,8 +22,8 @@ pub fn self_test() -> bool
     ensures passes { result ≡ true }
     ensures examples { WorkedExamples }
 {
-    ends_with([0x00; 7], 0xFE)
-        && ends_with([0xC5; 7], 0xFE)
+    ends_with([0x00; INFORMATION_OCTETS], 0xFE)
+        && ends_with([0xC5; INFORMATION_OCTETS], 0xFE)
         && ends_with([0, 0, 0, 0, 0, 0, 1], 0x74)
-        && ends_with([0x55; 7], 0xD6)
+        && ends_with([0x55; INFORMATION_OCTETS], 0xD6)
 }

@@ -1,0 +1,2 @@
+-- Lemmas on the lines that answer frames. Assumes nothing.
+mod Memory
