@@ -30,15 +30,26 @@ module _ (below : Showing) where
   same_in_period : (p q : ℕ) (xs : List ℕ) → p % 255 ≡ q % 255 → randomized_from On p xs ≡ randomized_from On q xs
   same_in_period p q [] e = refl
   same_in_period p q (x ∷ xs) e =
-      let same : sequence_octet p ≡ sequence_octet q = sym (sequence_octet_repeats p) ∙ ap sequence_octet e ∙ sequence_octet_repeats q in
+      let same : sequence_octet p ≡ sequence_octet q =
+      sym (sequence_octet_repeats p) ∙ ap sequence_octet e ∙ sequence_octet_repeats q
+      in
       ap₂ ◌∷◌ (ap (bit_xor x) same) (same_in_period (suc p) (suc q) xs (omega arith))
 
-  pub added_over : (capacity : ℕ) (finished : List Candidate) (opened after : Option Candidate) (octets under : List ℕ) (codeblocks : ℕ) →
-      after ≡ after_add below capacity finished opened under → under ≡ randomized_from On (7 * (codeblocks % 255)) octets → codeblocks ≡ open_codeblocks opened → OpenWhole opened →
+  -- and so it is where the place is taken within the period
+  pub added_over : (capacity : ℕ) (finished : List Candidate) (opened after : Option Candidate) →
+      (octets under : List ℕ) (codeblocks : ℕ) →
+      after ≡ after_add below capacity finished opened under →
+      under ≡ randomized_from On (7 * (codeblocks % 255)) octets →
+      codeblocks ≡ open_codeblocks opened → OpenWhole opened →
       after ≡ after_add (derandomized below) capacity finished opened octets
   added_over capacity finished opened after octets under codeblocks e added at whole =
-      let on : under ≡ randomized_from On (7 * codeblocks) octets = added ∙ same_in_period (7 * (codeblocks % 255)) (7 * codeblocks) octets (omega arith) in
-      e ∙ ap (after_add below capacity finished opened) (on ∙ ap (λ n. randomized_from On (7 * n) octets) at) ∙ added_below capacity finished opened octets whole
+      let on : under ≡ randomized_from On (7 * codeblocks) octets =
+      added ∙ same_in_period (7 * (codeblocks % 255)) (7 * codeblocks) octets (omega arith)
+      in
+      let there : under ≡ randomized_from On (7 * open_codeblocks opened) octets =
+      on ∙ ap (λ n. randomized_from On (7 * n) octets) at
+      in
+      e ∙ ap (after_add below capacity finished opened) there ∙ added_below capacity finished opened octets whole
 
 -- with the sequence added to one octet more
 pub randomized_more : (place i : ℕ) (octets : List ℕ) → i < length octets →
