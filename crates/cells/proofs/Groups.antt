@@ -3,9 +3,9 @@ use Rattle.std.proofs.Common.{◌≡◌, ℕ, zero, suc, ◌-◌, ◌*◌, ◌/�
 use Rattle.std.proofs.lemmas.Grind.{common_steps}
 use Rattle.std.proofs.lemmas.List.{length-append, length-drop, take_all, drop_all, drop_more, take-append-le, drop-append-le}
 use Rattle.std.proofs.lemmas.Bool.{and_from, le-leb, eq-eqb, eqb-true}
-use Rattle.ring.specs.declared.cells.Cell.{Cell}
-use Rattle.ring.specs.Cells.{octets_in, octets_of, first_count, grouped, parted}
-use Rattle.ring.specs.Sound.{Parts, parts}
+use Rattle.cells.specs.declared.cell.Cell.{Cell}
+use Rattle.cells.specs.Cells.{octets_in, octets_of, first_count, grouped, parted}
+use Rattle.cells.specs.Sound.{Parts, parts}
 
 pub octets_in_seven : (cell : Cell) → length cell.octets ≡ 7 → octets_in cell ≡ cell.octets
 octets_in_seven cell seven = grind (arith, common_steps, drop_more, drop_all)

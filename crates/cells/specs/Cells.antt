@@ -1,8 +1,8 @@
--- The candidates that cells hold, in the turn of a ring. Assumes nothing.
+-- The candidates that stand in cells, one behind the other. Assumes nothing.
 use Rattle.std.specs.Prelude.{ℕ, zero, suc, Bool, ◌&&◌, List, [], ◌∷◌, length, take, drop, Some, None, Option, ◌==◌, nat_le, slice_index_or}
 use Rattle.std.specs.List.{flat_map}
 use Rattle.hold.specs.Candidates.{Candidate}
-use Rattle.ring.specs.declared.cells.Cell.{Cell}
+use Rattle.cells.specs.declared.cell.Cell.{Cell}
 
 -- the seven octets in a cell
 abbrev pub octets_in : Cell → List ℕ

@@ -3,7 +3,7 @@ use Rattle.std.proofs.Common.{◌≡◌, ℕ, ◌-◌, ◌<◌, ◌≤◌, List,
 use Rattle.std.proofs.lemmas.Grind.{common_steps}
 use Rattle.refusals.specs.declared.Refusal.TheVariants.{PastCandidateEnd}
 use Rattle.hold.specs.Candidates.{Candidate, oldest_length, stretch_answer, after_stretch, release_answer}
-use Rattle.ring.specs.Held.{oldest_of}
+use Rattle.cells.specs.Held.{oldest_of}
 
 pub released : (fs : List Candidate) → 0 < length fs → release_answer fs ≡ Ok tt
 released fs some = grind (arith, common_steps)

@@ -1,11 +1,11 @@
--- What cells hold is whole candidates within the capacity. Assumes nothing.
+-- How many codeblocks the candidates in cells have, and that they are whole. Assumes nothing.
 use Rattle.std.specs.Prelude.{◌≡◌, ℕ, zero, suc, ◌+◌, ◌*◌, ◌<◌, ◌≤◌, true, List, [], ◌∷◌, length, take, drop, Some, None, Option, nat_le, refl}
 use Rattle.std.proofs.Common.{sym, ◌∙◌, arith}
 use Rattle.std.proofs.lemmas.List.{length-take-le, length-drop}
 use Rattle.std.proofs.lemmas.Bool.{and_parts, leb-true, eqb-true}
-use Rattle.hold.specs.Candidates.{finished_codeblocks, open_codeblocks, FinishedWhole, OpenWhole, Sound}
-use Rattle.ring.specs.declared.cells.Cell.{Cell}
-use Rattle.ring.specs.Cells.{octets_of, first_count, grouped, parted, added, unfinished_in}
+use Rattle.hold.specs.Candidates.{finished_codeblocks, open_codeblocks, FinishedWhole, OpenWhole}
+use Rattle.cells.specs.declared.cell.Cell.{Cell}
+use Rattle.cells.specs.Cells.{octets_of, first_count, grouped, parted, added, unfinished_in}
 
 pub length_octets_of : (cells : List Cell) → length (octets_of cells) ≡ 7 * length cells
 length_octets_of [] = refl
@@ -49,23 +49,3 @@ open_codeblocks_unfinished (Some n) cells h = omega (arith, length_octets_take n
 pub open_whole_unfinished : (unfinished : Option ℕ) (cells : List Cell) → added unfinished ≤ length cells → OpenWhole (unfinished_in unfinished cells)
 open_whole_unfinished None cells h = tt
 open_whole_unfinished (Some n) cells h = omega (arith, length_octets_take n cells h)
-
-module _ (cells : List Cell) (used waiting : ℕ) (unfinished : Option ℕ) (within : used + added unfinished ≤ length cells) (whole : parted waiting (take used cells) ≡ true) where
-  pub finished_codeblocks_used : finished_codeblocks (grouped waiting (take used cells)) ≡ used
-  finished_codeblocks_used =
-      finished_codeblocks_grouped waiting (take used cells) whole
-      ∙ length-take-le used cells (omega arith)
-
-  open_fits : added unfinished ≤ length (drop used cells)
-  open_fits = omega (arith, length-drop used cells)
-
-  pub open_codeblocks_added : open_codeblocks (unfinished_in unfinished (drop used cells)) ≡ added unfinished
-  open_codeblocks_added = open_codeblocks_unfinished unfinished (drop used cells) open_fits
-
-  pub sound_cells : Sound (length cells) (grouped waiting (take used cells)) (unfinished_in unfinished (drop used cells))
-  sound_cells =
-      record {
-        within = omega (arith, finished_codeblocks_used, open_codeblocks_added);
-        finished_whole = finished_whole_grouped waiting (take used cells) whole;
-        open_whole = open_whole_unfinished unfinished (drop used cells) open_fits;
-      }
