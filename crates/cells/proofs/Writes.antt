@@ -39,6 +39,9 @@ kept old new cells now same counted long front =
       whole = ap₂ (λ w u. parted w (take u now)) same.waiting same.used ∙ ap (parted old.waiting) front ∙ counted.whole;
     }
 
+pub still_counted : (old new : Counts) (cells : List Cell) → SameFinished old new → Counted old cells → Counted new cells
+still_counted old new cells same counted = kept old new cells cells same counted refl refl
+
 module _ (old new : Counts) (same : SameFinished old new) (codeblocks : ℕ) (is_open : old.unfinished ≡ Some codeblocks)
     (room : old.used + codeblocks < old.cells) (more : new.unfinished ≡ Some (codeblocks + 1)) where
   module _ (cells : List Cell) (counted : Counted old cells) where

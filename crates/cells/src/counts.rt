@@ -2,7 +2,7 @@ ghost use Rattle.std.specs.Prelude.{◌+◌, ◌≤◌};
 ghost use Rattle.cells.specs.Cells.{added};
 
 /// How much is held in cells that are read one behind the other: first the finished candidates, then the open one.
-#[derive(Drop)]
+#[derive(Clone, Copy)]
 pub struct Counts {
     /// How many cells there are.
     pub cells: usize,

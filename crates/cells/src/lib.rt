@@ -64,6 +64,7 @@ impl Counts {
     pub fn open(&mut self) -> Result<(), Refusal>
         ensures answer { (cells : List Cell) → result ≡ open_answer (opened_of self.old cells) }
         ensures opened { (cells : List Cell) → opened_of self.new cells ≡ after_open (opened_of self.old cells) }
+        ensures codeblocks { added self.new.unfinished ≡ added self.old.unfinished }
         ensures finished { SameFinished self.old self.new }
     {
         if self.unfinished.is_some() {

@@ -1,11 +1,13 @@
-ghost use Rattle.chain.specs.Links.{Chained};
+ghost use Rattle.cells.specs.Cells.{added};
+ghost use Rattle.cells.specs.Held.{Counted};
+ghost use Rattle.chain.specs.Links.{Chained, in_turn};
+
+use cells::{Cell, Counts};
 
 /// Room for one codeblock of a chain.
 #[derive(Clone, Copy)]
-pub struct Cell {
-    pub(crate) octets: [u8; 7],
-    // In the first cell of a finished candidate, how many codeblocks the candidate has.
-    pub(crate) codeblocks: u16,
+pub struct LinkedCell {
+    pub(crate) room: Cell,
     // In the first cell of a finished candidate, which cell is its last.
     pub(crate) last: u16,
     // Which cell comes next.
@@ -17,7 +19,7 @@ pub struct Cell {
 /// the free ones.
 #[derive(Drop)]
 pub struct Chain<'a> {
-    pub(crate) cells: &'a mut [Cell],
+    pub(crate) cells: &'a mut [LinkedCell],
     // Which cell comes first of all.
     pub(crate) first: u16,
     // Which comes behind those of the finished candidates: the first of the open one, or a free one.
@@ -28,11 +30,7 @@ pub struct Chain<'a> {
     pub(crate) last_finished: u16,
     // Which is the last that is held, if one is.
     pub(crate) last_held: u16,
-    // How many cells the finished candidates have.
-    pub(crate) used: usize,
-    // How many finished candidates wait.
-    pub(crate) waiting: usize,
-    // How many codeblocks the open candidate has, if one is open.
-    pub(crate) unfinished: Option<usize>,
-    ghost chained: { Chained cells.now first first_open first_free last_finished last_held used waiting unfinished },
+    pub(crate) counts: Counts,
+    ghost counted: { Counted counts (in_turn cells.now first) },
+    ghost chained: { Chained cells.now first first_open first_free last_finished last_held counts.used counts.waiting (added counts.unfinished) },
 }

@@ -1,9 +1,9 @@
 -- What is read so far is the front of the stretch, and the cell is the one of the octet that comes next. Assumes nothing.
 use Rattle.std.proofs.Common.{◌≡◌, ◌+◌, ◌/◌, take, drop}
-use Rattle.ring.specs.Held.{oldest_of}
+use Rattle.cells.specs.Held.{oldest_of}
 use Rattle.chain.specs.Links.{after}
 use Rattle.chain.specs.Held.{finished_in}
-use Rattle.chain.proofs.cells.Chain.read.Given as goal
+use Rattle.chain.proofs.chain.Chain.read.Given as goal
 
 abbrev pub invariant-loop-i : goal.invariant-loop-i
 invariant-loop-i l =
