@@ -1,8 +1,7 @@
 -- The oldest of candidates that stand in cells, one behind the other. Assumes nothing.
 use Rattle.std.proofs.Common.{◌≡◌, ℕ, zero, suc, ◌+◌, ◌-◌, ◌*◌, ◌/◌, ◌%◌, ◌<◌, ◌≤◌, true, List, [], ◌∷◌, ◌++◌, length, get_or, take, drop, set, Ok, Some, None, Option, sym, refl, ap, ◌∙◌, ap₂, arith}
-use Rattle.std.proofs.lemmas.Grind.{common_steps}
 use Rattle.std.proofs.lemmas.List.{take_all, take_more, take_more_set, length-drop, length-take-le, get_or-drop, get_or-take, take-take, drop-take, drop-drop}
-use Rattle.hold.specs.Candidates.{Candidate, finish_answer, open_after_finish, stretch_answer, after_stretch, after_release}
+use Rattle.hold.specs.Candidates.{Candidate, stretch_answer, after_stretch, after_release}
 use Rattle.cells.specs.declared.cell.Cell.{Cell}
 use Rattle.cells.specs.declared.counts.Counts.{Counts}
 use Rattle.cells.specs.Cells.{octets_of, first_count, grouped, parted, added, unfinished_in}

@@ -1,14 +1,14 @@
 -- What cells hold by the counts, and what the calls of a hold find there and leave. Assumes nothing.
 use Rattle.std.specs.Prelude.{◌≡◌, ℕ, ◌+◌, ◌-◌, ◌*◌, ◌<◌, ◌≤◌, true, List, [], ◌∷◌, length, take, drop, Some, None, Ok, Err, Option, slice_index_or, slice_set}
-use Rattle.std.proofs.Common.{sym, ap, ◌∙◌, arith}
+use Rattle.std.proofs.Common.{sym, ◌∙◌, arith}
 use Rattle.std.proofs.lemmas.List.{length-take-le, length-drop}
 use Rattle.refusals.specs.declared.Refusal.{Refusal}
-use Rattle.refusals.specs.declared.Refusal.TheVariants.{NoCandidate, PastCandidateEnd, NoCandidateOpen}
+use Rattle.refusals.specs.declared.Refusal.TheVariants.{NoCandidate, PastCandidateEnd}
 use Rattle.hold.specs.Candidates.{Candidate, Sound, finished_codeblocks, open_codeblocks, free_space, add_answer, after_add, finish_answer, open_after_finish, finished_after_finish, release_answer, oldest_length, stretch_answer, after_stretch}
 use Rattle.hold.specs.Plain.{plain_showing}
 use Rattle.cells.specs.declared.cell.Cell.{Cell}
 use Rattle.cells.specs.declared.counts.Counts.{Counts}
-use Rattle.cells.specs.Cells.{octets_in, first_count, grouped, parted, added, unfinished_in}
+use Rattle.cells.specs.Cells.{first_count, grouped, parted, added, unfinished_in}
 use Rattle.cells.specs.Sound.{finished_codeblocks_grouped, finished_whole_grouped, open_codeblocks_unfinished, open_whole_unfinished}
 
 -- cells that are held

@@ -1,5 +1,5 @@
 -- Cells that link each to the one that lies behind it. Assumes nothing.
-use Rattle.std.proofs.Common.{◌≡◌, ℕ, zero, suc, ◌+◌, ◌<◌, ◌≤◌, cond, eqb, ltb, leb, ◌&&◌, List, length, take, length-take, refl, None, ap, ◌∙◌, arith}
+use Rattle.std.proofs.Common.{◌≡◌, ℕ, zero, suc, ◌+◌, ◌<◌, ◌≤◌, cond, eqb, ltb, leb, ◌&&◌, List, length, take, length-take, refl, ap, ◌∙◌, arith}
 use Rattle.chain.specs.declared.chain.LinkedCell.{LinkedCell as Cell}
 use Rattle.chain.specs.Links.{Chained, LinkInTurn, cell_at, nodes, times, EachOnce}
 

@@ -1,5 +1,5 @@
 -- The oldest candidate's cells put behind those that are held. Assumes nothing.
-use Rattle.std.proofs.Common.{◌≡◌, ℕ, zero, suc, ◌+◌, ◌-◌, ◌<◌, ◌≤◌, ◌≢◌, true, eqb, ltb, cond, List, ◌++◌, length, get_or, take, drop, sym, refl, inl, inr, ap, ◌∙◌, ap₂, arith, length-set}
+use Rattle.std.proofs.Common.{◌≡◌, ℕ, zero, suc, ◌+◌, ◌-◌, ◌<◌, ◌≤◌, ◌≢◌, true, eqb, ltb, cond, List, length, get_or, take, drop, sym, refl, inl, inr, ap, ◌∙◌, ap₂, arith, length-set}
 use Rattle.std.proofs.lemmas.Bool.{cond-true, cond-false}
 use Rattle.std.proofs.lemmas.Bool.Decides.{eqb_tells}
 use Rattle.std.proofs.lemmas.List.{drop-map, get_or-set_same, get_or-set_other}
@@ -11,7 +11,7 @@ use Rattle.chain.specs.declared.chain.LinkedCell.{LinkedCell as Cell}
 use Rattle.chain.specs.declared.chain.Chain.{Chain}
 use Rattle.chain.specs.Links.{Chained, blank, cell_at, after, nodes, rooms, in_turn, times, EachOnce, no_node, last_cells_noted, relinked, moved_behind, first_behind}
 use Rattle.chain.specs.Held.{capacity_of, finished_in, opened_in}
-use Rattle.chain.proofs.Links.{nodes_add, after_add, after_more, length_nodes, get_nodes, times_append, after_elsewhere, nodes_elsewhere, nodes_relinked, after_relinked, before_it, behind_it, below, occurs}
+use Rattle.chain.proofs.Links.{nodes_add, after_add, after_more, get_nodes, times_append, after_elsewhere, nodes_elsewhere, nodes_relinked, after_relinked, before_it, behind_it, below, occurs}
 use Rattle.chain.proofs.Turns.{front_nodes, drop_nodes, length_in_turn, take_in_turn}
 use Rattle.chain.proofs.Oldest.{as_many, held_fits, used_turn, cell_below, end_cell, oldest_ends}
 

@@ -1,6 +1,6 @@
 -- A codeblock put into the first free cell, and the first cell of a candidate noting it. Assumes nothing.
-use Rattle.std.proofs.Common.{◌≡◌, ℕ, zero, suc, ◌+◌, ◌-◌, ◌<◌, ◌≤◌, true, eqb, List, [], ◌∷◌, ◌++◌, length, get_or, drop, set, cond, ltb, Some, sym, refl, subst, ap, ◌∙◌, ap₂, add-one, arith, length-set}
-use Rattle.std.proofs.lemmas.List.{map-set, map-append, get_or-set_same, length-map, get_or_append_left, drop-append-le, drop-map}
+use Rattle.std.proofs.Common.{◌≡◌, ℕ, zero, suc, ◌+◌, ◌-◌, ◌<◌, ◌≤◌, true, eqb, List, [], ◌∷◌, ◌++◌, length, get_or, drop, set, cond, ltb, sym, refl, subst, ap, ◌∙◌, ap₂, add-one, arith, length-set}
+use Rattle.std.proofs.lemmas.List.{map-set, get_or-set_same, length-map, get_or_append_left, drop-append-le, drop-map}
 use Rattle.std.proofs.Math.Seq.{set-append_seam}
 use Rattle.std.proofs.lemmas.Bool.{and_from, and_parts, eq-eqb, eqb-true}
 use Rattle.hold.specs.Candidates.{after_add, finished_after_finish, open_after_finish}
@@ -16,7 +16,7 @@ use Rattle.chain.specs.Links.{Chained, blank, cell_at, after, Node, node_of, nod
 use Rattle.chain.specs.Held.{capacity_of, finished_in, opened_in}
 use Rattle.chain.proofs.Links.{nodes_add, after_add as after_sum, after_more, length_nodes, get_nodes, nodes_elsewhere, after_stays, times_stay, before_it, behind_it, below}
 use Rattle.chain.proofs.Turns.{room_at}
-use Rattle.chain.proofs.Oldest.{held_fits, as_many, used_turn}
+use Rattle.chain.proofs.Oldest.{as_many, used_turn}
 
 -- one more candidate behind the others
 module _ (last : List Node) (some : 0 < first_count (rooms last)) (noted_last : (get_or last 0 no_node).last ≡ place_in last (first_count (rooms last) - 1)) where

@@ -1,5 +1,5 @@
 -- Cells in the order of their links. Assumes nothing.
-use Rattle.std.specs.Prelude.{◌≡◌, ℕ, zero, suc, ◌+◌, ◌-◌, ◌<◌, ◌≤◌, Bool, true, cond, ◌&&◌, List, [], ◌∷◌, map, length, drop, Option, ◌==◌, nat_lt, slice_index_or, slice_set}
+use Rattle.std.specs.Prelude.{◌≡◌, ℕ, zero, suc, ◌+◌, ◌-◌, ◌<◌, Bool, true, cond, ◌&&◌, List, [], ◌∷◌, map, length, drop, ◌==◌, nat_lt, slice_index_or, slice_set}
 use Rattle.cells.specs.declared.cell.Cell.{Cell as Room}
 use Rattle.cells.specs.Cells.{first_count}
 use Rattle.cells.specs.Held.{blank as no_room}

@@ -65,7 +65,13 @@ fn note(cells: &mut [LinkedCell], place: u16, codeblocks: u16, last: u16)
 // Takes the cells from the first of all to `end` off the front, and puts them behind the last that is
 // held and before the first free one. Gives which cell comes first then.
 #[tactic(auto, unfolding(crate::specs::Links::moved_behind, crate::specs::Links::first_behind))]
-fn move_behind(cells: &mut [LinkedCell], first: u16, end: u16, last_held: u16, first_free: u16) -> u16
+fn move_behind(
+    cells: &mut [LinkedCell],
+    first: u16,
+    end: u16,
+    last_held: u16,
+    first_free: u16,
+) -> u16
     requires { (end < length cells.old) × (last_held < length cells.old) }
     ensures cells { cells.new ≡ moved_behind cells.old first end last_held first_free }
     ensures first { result ≡ first_behind cells.old first end last_held }

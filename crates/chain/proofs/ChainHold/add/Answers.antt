@@ -1,5 +1,5 @@
 -- The codeblock stands in the first free cell. Assumes nothing.
-use Rattle.std.proofs.Common.{rules, ◌≡◌, ℕ, length}
+use Rattle.std.proofs.Common.{rules}
 use Rattle.chain.proofs.Writes.{free_below, filled_counted, filled_kept}
 use Rattle.chain.proofs.ChainHold.add.Goals as goal
 

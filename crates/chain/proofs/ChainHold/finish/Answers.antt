@@ -1,5 +1,4 @@
 -- The first cell of the candidate notes it. Assumes nothing.
-use Rattle.std.proofs.Common.{◌≡◌, ℕ}
 use Rattle.chain.proofs.Writes.{first_open_below, noted_counted, noted_kept}
 use Rattle.chain.proofs.ChainHold.finish.Goals as goal
 

@@ -1,5 +1,4 @@
 -- The oldest candidate's cells are free, and the others are held as before. Assumes nothing.
-use Rattle.std.proofs.Common.{◌≡◌, ℕ}
 use Rattle.chain.proofs.Releases.{moved_many, moved_whole, moved_kept}
 use Rattle.chain.proofs.ChainHold.release.Goals as goal
 

@@ -1,5 +1,5 @@
 -- A codeblock is counted, or no cell is free. Assumes nothing.
-use Rattle.std.proofs.Common.{rules, ◌≡◌, ℕ, ◌+◌, ◌<◌, ap, refl, arith}
+use Rattle.std.proofs.Common.{ap, refl, arith}
 use Rattle.cells.specs.Cells.{added}
 use Rattle.cells.proofs.Writes.{adds, adds_full}
 use Rattle.cells.proofs.counts.Counts.add.Goals as goal

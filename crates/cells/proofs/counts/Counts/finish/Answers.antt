@@ -1,5 +1,5 @@
 -- The open candidate is counted among the finished ones. Assumes nothing.
-use Rattle.std.proofs.Common.{◌≡◌, ℕ, ◌<◌, refl, arith}
+use Rattle.std.proofs.Common.{refl, arith}
 use Rattle.cells.proofs.Writes.{finishes}
 use Rattle.cells.proofs.counts.Counts.finish.Goals as goal
 

@@ -1,6 +1,5 @@
 -- A new chain holds nothing. Assumes nothing.
-use Rattle.std.proofs.Common.{rules, ◌≡◌, ℕ, length, refl, ap, ◌∙◌}
-use Rattle.cells.specs.Cells.{added}
+use Rattle.std.proofs.Common.{rules, refl, ◌∙◌}
 use Rattle.chain.proofs.Begin.{new_chained}
 use Rattle.chain.proofs.Turns.{length_in_turn}
 use Rattle.chain.proofs.chain.Chain.new.Goals as goal

@@ -1,5 +1,5 @@
 -- The first cell counts the oldest candidate. Assumes nothing.
-use Rattle.std.proofs.Common.{rules, ◌≡◌, ℕ, arith}
+use Rattle.std.proofs.Common.{rules}
 use Rattle.ring.proofs.Turns.{oldest_counted}
 use Rattle.ring.proofs.ring.Ring.oldest.Goals as goal
 
