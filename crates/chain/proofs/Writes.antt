@@ -1,6 +1,6 @@
 -- A codeblock put into the first free cell, and the first cell of a candidate noting it. Assumes nothing.
 use Rattle.std.proofs.Common.{◌≡◌, ℕ, zero, suc, ◌+◌, ◌-◌, ◌<◌, ◌≤◌, true, eqb, List, [], ◌∷◌, ◌++◌, length, get_or, drop, set, cond, ltb, sym, refl, subst, ap, ◌∙◌, ap₂, add-one, arith, length-set}
-use Rattle.std.proofs.lemmas.List.{map-set, get_or-set_same, length-map, get_or_append_left, drop-append-le, drop-map}
+use Rattle.std.proofs.lemmas.List.{map-set, get_or-set_same, get_or-set_other, length-map, get_or_append_left, drop-append-le, drop-map}
 use Rattle.std.proofs.Math.Seq.{set-append_seam}
 use Rattle.std.proofs.lemmas.Bool.{and_from, and_parts, eq-eqb, eqb-true}
 use Rattle.hold.specs.Candidates.{after_add, finished_after_finish, open_after_finish}
@@ -165,6 +165,21 @@ module _ (chain : Chain) (new : Counts) (adds : Adds chain.counts new) (codebloc
     pub filled_opened : opened_of new (in_turn (filled cells place codeblock) first) ≡ after_add plain_showing (capacity_of chain) (finished_in chain) (opened_in chain) codeblock.octets
     unfolding filled
     filled_opened = stored.opened
+
+  pub place_free : times place (nodes held cells first) ≡ 0
+  place_free = ap (λ p. times p (nodes held cells first)) chain.chained.frees ∙ before_it cells first chain.chained.each_once held 0 held (omega arith) room
+
+  pub filled_behind : nodes (held_by new) (filled cells place codeblock) first ≡ nodes held cells first ++ node_of place cell ∷ []
+  unfolding filled
+  filled_behind =
+      ap (λ n. nodes n more first) one_held ∙ nodes_add more held 1 first
+      ∙ ap₂ ◌++◌ (stretch_before chain held place chain.chained.frees room cell refl 0 held first (omega arith) refl)
+      (ap (λ p. node_of p (cell_at more p) ∷ []) (same_after held ∙ sym chain.chained.frees)
+      ∙ ap (λ c. node_of place c ∷ []) (get_or-set_same cells place cell blank (place_below chain held place chain.chained.frees room)))
+
+  pub others_filled : (other : ℕ) → ¬ (other ≡ place) → cell_at (filled cells place codeblock) other ≡ cell_at cells other
+  unfolding filled
+  others_filled other apart = get_or-set_other cells place other cell blank apart
 
   pub filled_kept : Chained (filled cells place codeblock) first chain.first_open (cell_at cells place).next chain.last_finished place new.used new.waiting (added new.unfinished)
   unfolding filled

@@ -2,14 +2,15 @@
 //! constant time for each call but the making and a read.
 #![tactic(auto)]
 
-ghost use Rattle.std.specs.Prelude.{◌≡◌, ℕ, ◌+◌, ◌-◌, ◌/◌, ◌<◌, ◌≤◌, ◌==◌, cond, min, [], length, None as absent, Ok, MatchResult};
+ghost use Rattle.std.specs.Prelude.{◌≡◌, ℕ, ◌+◌, ◌-◌, ◌/◌, ◌<◌, ◌≤◌, ◌==◌, cond, min, [], length, None as absent, Ok, MatchResult, OnOk};
 ghost use Rattle.randomizer.specs.declared.Randomizer.TheVariants.{Off};
-ghost use Rattle.hold.specs.Candidates.{Matches, stretch_answer, after_stretch};
+ghost use Rattle.hold.specs.Candidates.{Matches, add_answer, after_add, stretch_answer, after_stretch};
 ghost use Rattle.hold.specs.Plain.{plain_showing, plain_shows_apart};
 ghost use Rattle.cells.specs.Cells.{added};
 ghost use Rattle.cells.specs.Held.{oldest_of, Oldest, NoneWaits};
 ghost use Rattle.chain.specs.Links.{LinkInTurn, in_turn, cell_at, after, filled, noted, moved_behind, first_behind};
 ghost use Rattle.chain.specs.Held.{capacity_of, finished_in, opened_in, sound_chain};
+ghost use Rattle.chain.specs.Taken.{TakesFree};
 
 use cells::{CODEBLOCK_OCTETS, Cell, Counts};
 use hold::Hold;
@@ -194,7 +195,14 @@ impl<'a> Hold for Chain<'a> {
     }
 
     #[tactic(auto, using(crate::proofs::Writes::filled_finished, crate::proofs::Writes::filled_opened))]
-    fn add(&mut self, octets: [u8; 7]) -> Result<(), Refusal> {
+    fn add(&mut self, octets: [u8; 7]) -> Result<(), Refusal>
+        ensures answer { result ≡ add_answer (capacity_of self.old) (finished_in self.old) (opened_in self.old) }
+        ensures capacity { capacity_of self.new ≡ capacity_of self.old }
+        ensures finished { finished_in self.new ≡ finished_in self.old }
+        ensures opened { opened_in self.new ≡ after_add plain_showing (capacity_of self.old) (finished_in self.old) (opened_in self.old) octets }
+        // The codeblock goes into a cell that no candidate had, and all other cells are as they were.
+        ensures takes { OnOk result (TakesFree self.old self.new octets) }
+    {
         let mut counts = self.counts;
         counts.add()?;
         let codeblock = Cell {
