@@ -1,8 +1,9 @@
 -- A codeblock put behind the open candidate's others, and its codeblocks noted in its first cell. Assumes nothing.
-use Rattle.std.proofs.Common.{◌≡◌, ℕ, zero, suc, ◌+◌, ◌<◌, ◌≤◌, true, false, eqb, List, [], ◌∷◌, ◌++◌, length, get_or, take, drop, set, Some, None, Ok, sym, refl, ap, ◌∙◌, ap₂, add-one, arith, take-add}
+use Rattle.std.proofs.Common.{◌≡◌, ℕ, zero, suc, ◌+◌, ◌<◌, ◌≤◌, true, false, eqb, List, [], ◌∷◌, ◌++◌, length, get_or, take, drop, set, Some, Option, None, Ok, Err, sym, refl, ap, ◌∙◌, ap₂, add-one, arith, take-add}
 use Rattle.std.proofs.lemmas.Grind.{common_steps}
 use Rattle.std.proofs.lemmas.List.{length-set, length-drop, length-take-le, take-set-le, drop-set, drop-set-add, drop_more, take_more_set, flat_map_more}
 use Rattle.std.proofs.lemmas.Bool.{cond-false, cond-true, ne_eqb, eq-eqb}
+use Rattle.refusals.specs.declared.Refusal.{Refusal}
 use Rattle.refusals.specs.declared.Refusal.TheVariants.{NoCandidateOpen, NoFreeSpace, CandidateEmpty}
 use Rattle.hold.specs.Candidates.{Candidate, free_space, add_answer, after_add, finish_answer, open_after_finish, finished_after_finish}
 use Rattle.hold.specs.Plain.{plain_showing}
@@ -207,20 +208,19 @@ module _ (old new : Counts) (codeblocks : ℕ) (cells_same : new.cells ≡ old.c
         noted = λ cells cell counted same noted. noted_so cells counted cell same noted;
       }
 
-pub finishes_unopened : (old : Counts) → old.unfinished ≡ None → FinishesNone old old NoCandidateOpen
-finishes_unopened old none =
+-- no candidate is open, or an empty one
+finishes_none : (old : Counts) (why : Refusal) (still : Option Candidate) → ((cells : List Cell) → opened_of old cells ≡ still) → finish_answer still ≡ Err why →
+    ((finished : List Candidate) → finished_after_finish finished still ≡ finished) → open_after_finish still ≡ still → FinishesNone old old why
+finishes_none old why still is refused finished stays =
     record {
       same = refl;
-      answer = λ cells counted. ap (λ u. finish_answer (unfinished_in u (drop old.used cells))) none;
-      finished = λ cells counted. ap (λ u. finished_after_finish (finished_of old cells) (unfinished_in u (drop old.used cells))) none;
-      opened = λ cells counted. ap (λ u. open_after_finish (unfinished_in u (drop old.used cells))) none ∙ sym (ap (λ u. unfinished_in u (drop old.used cells)) none);
+      answer = λ cells counted. ap finish_answer (is cells) ∙ refused;
+      finished = λ cells counted. ap (finished_after_finish (finished_of old cells)) (is cells) ∙ finished (finished_of old cells);
+      opened = λ cells counted. ap open_after_finish (is cells) ∙ stays ∙ sym (is cells);
     }
 
+pub finishes_unopened : (old : Counts) → old.unfinished ≡ None → FinishesNone old old NoCandidateOpen
+finishes_unopened old none = finishes_none old NoCandidateOpen None (λ cells. ap (λ u. unfinished_in u (drop old.used cells)) none) refl (λ finished. refl) refl
+
 pub finishes_empty : (old : Counts) → old.unfinished ≡ Some 0 → FinishesNone old old CandidateEmpty
-finishes_empty old none =
-    record {
-      same = refl;
-      answer = λ cells counted. ap (λ u. finish_answer (unfinished_in u (drop old.used cells))) none;
-      finished = λ cells counted. ap (λ u. finished_after_finish (finished_of old cells) (unfinished_in u (drop old.used cells))) none;
-      opened = λ cells counted. ap (λ u. open_after_finish (unfinished_in u (drop old.used cells))) none ∙ sym (ap (λ u. unfinished_in u (drop old.used cells)) none);
-    }
+finishes_empty old none = finishes_none old CandidateEmpty (Some []) (λ cells. ap (λ u. unfinished_in u (drop old.used cells)) none) refl (λ finished. refl) refl

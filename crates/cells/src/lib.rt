@@ -2,7 +2,8 @@
 //! have in common.
 #![tactic(auto)]
 
-ghost use Rattle.std.specs.Prelude.{◌≡◌, ℕ, ◌-◌, min, List, length, None as absent, MatchResult};
+ghost use Rattle.std.specs.Prelude.{◌≡◌, ℕ, ◌-◌, ◌<◌, ◌≤◌, min, List, length, None as absent, MatchResult};
+ghost use Rattle.refusals.specs.declared.Refusal.TheVariants.{PastCandidateEnd};
 ghost use Rattle.hold.specs.Candidates.{free_space, open_codeblocks, open_answer, after_open, abandon_answer};
 ghost use Rattle.cells.specs.declared.cell.Cell.{Cell};
 ghost use Rattle.cells.specs.Cells.{added};
@@ -117,4 +118,15 @@ impl Counts {
         self.unfinished.take().ok_or(Refusal::NoCandidateOpen)?;
         Ok(())
     }
+}
+
+/// Whether a stretch of so many octets, from a place on, lies within a candidate of so many. Refused with 8 where
+/// an octet at or past its end is asked for.
+pub fn stretch_within(candidate: usize, place: usize, octets: usize) -> Result<(), Refusal>
+    ensures { MatchResult result (λ _. octets ≤ candidate - place) (λ why. (why ≡ PastCandidateEnd) × (candidate - place < octets)) }
+{
+    if octets > candidate.saturating_sub(place) {
+        return Err(Refusal::PastCandidateEnd);
+    }
+    Ok(())
 }

@@ -12,7 +12,7 @@ ghost use Rattle.chain.specs.Links.{LinkInTurn, in_turn, cell_at, after, filled,
 ghost use Rattle.chain.specs.Held.{capacity_of, finished_in, opened_in, sound_chain};
 ghost use Rattle.chain.specs.Taken.{TakesFree};
 
-use cells::{CODEBLOCK_OCTETS, Cell, Counts};
+use cells::{CODEBLOCK_OCTETS, Cell, Counts, stretch_within};
 use hold::Hold;
 use refusals::Refusal;
 
@@ -268,10 +268,7 @@ impl<'a> Hold for Chain<'a> {
     }
 
     fn read_oldest(&self, place: usize, memory: &mut [u8]) -> Result<(), Refusal> {
-        let octets = self.oldest_length()?;
-        if memory.len() > octets.saturating_sub(place) {
-            return Err(Refusal::PastCandidateEnd);
-        }
+        stretch_within(self.oldest_length()?, place, memory.len())?;
         self.read(place, memory);
         Ok(())
     }

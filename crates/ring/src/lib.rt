@@ -8,7 +8,7 @@ ghost use Rattle.hold.specs.Plain.{plain_showing, plain_shows_apart};
 ghost use Rattle.cells.specs.Held.{oldest_of, Oldest, NoneWaits};
 ghost use Rattle.ring.specs.Held.{in_turn, capacity_of, finished_in, opened_in, sound_ring};
 
-use cells::{CODEBLOCK_OCTETS, Counts};
+use cells::{CODEBLOCK_OCTETS, Counts, stretch_within};
 use circular::Circle;
 use hold::Hold;
 use refusals::Refusal;
@@ -136,10 +136,7 @@ impl<'a> Hold for Ring<'a> {
     }
 
     fn read_oldest(&self, place: usize, memory: &mut [u8]) -> Result<(), Refusal> {
-        let octets = self.oldest_length()?;
-        if memory.len() > octets.saturating_sub(place) {
-            return Err(Refusal::PastCandidateEnd);
-        }
+        stretch_within(self.oldest_length()?, place, memory.len())?;
         self.read(place, memory);
         Ok(())
     }
