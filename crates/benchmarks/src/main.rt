@@ -2,7 +2,7 @@
 #![tactic(auto)]
 
 use bch::{Accepted, Mode};
-use chain::Chain;
+use chain::{Chain, LinkedCell};
 use cltu::{CodeblockLimit, LONGEST_CLTU, Sender};
 use coding::{codeblock, judge};
 use command_line::{Program, Task, arguments};
@@ -250,7 +250,7 @@ impl Work for ChainCalls {
     }
 
     fn checksum(&self, operations: u64, round: u64) -> u64 {
-        let mut cells = [chain::Cell::EMPTY; MANY_CELLS];
+        let mut cells = [LinkedCell::EMPTY; MANY_CELLS];
         let mut chain = Chain::new(&mut cells[..self.cells.min(MANY_CELLS)]);
         calls_checksum(&mut chain, operations, round)
     }
@@ -308,7 +308,7 @@ impl Work for ChainCopying {
     }
 
     fn checksum(&self, operations: u64, round: u64) -> u64 {
-        let mut cells = [chain::Cell::EMPTY; 147];
+        let mut cells = [LinkedCell::EMPTY; 147];
         let mut chain = Chain::new(&mut cells);
         copying_checksum(&mut chain, self.codeblocks, operations, round)
     }

@@ -1,6 +1,6 @@
 -- Cells that link each to the one that lies behind it. Assumes nothing.
-use Rattle.std.proofs.Common.{◌≡◌, ℕ, zero, suc, ◌+◌, ◌<◌, ◌≤◌, cond, eqb, ltb, leb, ◌&&◌, List, length, take, length-take, refl, None, ap, ◌∙◌, arith}
-use Rattle.chain.specs.declared.cells.Cell.{Cell}
+use Rattle.std.proofs.Common.{◌≡◌, ℕ, zero, suc, ◌+◌, ◌<◌, ◌≤◌, cond, eqb, ltb, leb, ◌&&◌, List, length, take, length-take, refl, ap, ◌∙◌, arith}
+use Rattle.chain.specs.declared.chain.LinkedCell.{LinkedCell as Cell}
 use Rattle.chain.specs.Links.{Chained, LinkInTurn, cell_at, nodes, times, EachOnce}
 
 -- how often a cell is among so many that lie behind one another
@@ -21,13 +21,10 @@ module _ (cells : List Cell) (in_turn : (place : ℕ) → place < length cells �
   each_once : EachOnce (length cells) (nodes (length cells) cells 0)
   each_once x = counted_from x (length cells) 0 (omega arith) ∙ from_start x (length cells)
 
-  all_chained : length cells ≤ 65535 → Chained cells 0 0 0 0 0 0 0 None
-  all_chained few =
+  all_chained : Chained cells 0 0 0 0 0 0 0 0
+  all_chained =
       record {
-        most = few;
-        within = omega arith;
         each_once = each_once;
-        whole = refl;
         ends = refl;
         opens = refl;
         frees = refl;
@@ -35,9 +32,9 @@ module _ (cells : List Cell) (in_turn : (place : ℕ) → place < length cells �
         holds = λ h. refl;
       }
 
-pub new_chained : (cells : List Cell) → LinkInTurn cells → length cells ≤ 65535 → Chained cells 0 0 0 0 0 0 0 None
+pub new_chained : (cells : List Cell) → LinkInTurn cells → Chained cells 0 0 0 0 0 0 0 0
 unfolding LinkInTurn
-new_chained cells in_turn few = all_chained cells in_turn few
+new_chained cells in_turn = all_chained cells in_turn
 
 pub few_taken : (n : ℕ) (cells : List Cell) → length (take n cells) ≤ n
 few_taken n cells = omega (arith, length-take n cells)

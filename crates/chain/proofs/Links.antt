@@ -2,7 +2,7 @@
 use Rattle.std.proofs.Common.{◌≡◌, ℕ, zero, suc, ◌+◌, ◌-◌, ◌<◌, ◌≤◌, ◌≢◌, cond, true, false, eqb, ltb, inl, inr, ltb-true, Bool, List, [], ◌∷◌, ◌++◌, length, get_or, set, sym, refl, ap, ◌∙◌, zero-add, eq-eqb, arith, get_or-set_same, get_or-set_other}
 use Rattle.std.proofs.lemmas.Bool.{cond-true}
 use Rattle.std.proofs.lemmas.Bool.Decides.{eqb_tells}
-use Rattle.chain.specs.declared.cells.Cell.{Cell}
+use Rattle.chain.specs.declared.chain.LinkedCell.{LinkedCell as Cell}
 use Rattle.chain.specs.Links.{blank, cell_at, after, Node, node_of, nodes, times, EachOnce}
 
 module _ (cells : List Cell) where

@@ -1,39 +1,24 @@
 -- The oldest candidate's cells put behind those that are held. Assumes nothing.
-use Rattle.std.proofs.Common.{◌≡◌, ℕ, zero, suc, ◌+◌, ◌-◌, ◌<◌, ◌≤◌, ◌≢◌, eqb, ltb, cond, List, ◌++◌, length, get_or, take, drop, sym, refl, inl, inr, ap, ◌∙◌, ap₂, arith, length-set}
+use Rattle.std.proofs.Common.{◌≡◌, ℕ, zero, suc, ◌+◌, ◌-◌, ◌<◌, ◌≤◌, ◌≢◌, true, eqb, ltb, cond, List, length, get_or, take, drop, sym, refl, inl, inr, ap, ◌∙◌, ap₂, arith, length-set}
 use Rattle.std.proofs.lemmas.Bool.{cond-true, cond-false}
 use Rattle.std.proofs.lemmas.Bool.Decides.{eqb_tells}
-use Rattle.std.proofs.lemmas.List.{take-append-le, take_all, drop-append-le, drop_all, drop-map, get_or-set_same, get_or-set_other}
+use Rattle.std.proofs.lemmas.List.{drop-map, get_or-set_same, get_or-set_other}
 use Rattle.hold.specs.Candidates.{after_release}
-use Rattle.ring.specs.Cells.{first_count, grouped, parted, added, unfinished_in}
-use Rattle.chain.specs.declared.cells.Cell.{Cell}
-use Rattle.chain.specs.declared.cells.Chain.{Chain}
-use Rattle.chain.specs.Links.{Chained, blank, cell_at, after, nodes, rooms, times, EachOnce, no_node, last_cells_noted, relinked, moved_behind, first_behind}
-use Rattle.chain.specs.Held.{capacity_of, used_nodes, used_rooms, finished_in, opened_in}
-use Rattle.ring.specs.Held.{Oldest}
-use Rattle.chain.proofs.Links.{nodes_add, after_add, after_more, length_nodes, get_nodes, times_append, after_elsewhere, nodes_elsewhere, nodes_relinked, after_relinked, before_it, behind_it, below, occurs}
-use Rattle.chain.proofs.Oldest.{cell_below, oldest_is, end_cell, oldest_first, oldest_ends}
+use Rattle.cells.specs.Cells.{first_count, grouped, parted, added, unfinished_in}
+use Rattle.cells.specs.Held.{Oldest}
+use Rattle.cells.proofs.Oldest.{whole_behind, finished_behind, open_behind}
+use Rattle.chain.specs.declared.chain.LinkedCell.{LinkedCell as Cell}
+use Rattle.chain.specs.declared.chain.Chain.{Chain}
+use Rattle.chain.specs.Links.{Chained, blank, cell_at, after, nodes, rooms, in_turn, times, EachOnce, no_node, last_cells_noted, relinked, moved_behind, first_behind}
+use Rattle.chain.specs.Held.{capacity_of, finished_in, opened_in}
+use Rattle.chain.proofs.Links.{nodes_add, after_add, after_more, get_nodes, times_append, after_elsewhere, nodes_elsewhere, nodes_relinked, after_relinked, before_it, behind_it, below, occurs}
+use Rattle.chain.proofs.Turns.{front_nodes, drop_nodes, length_in_turn, take_in_turn}
+use Rattle.chain.proofs.Oldest.{as_many, held_fits, used_turn, cell_below, end_cell, oldest_ends}
 
 -- the same cells in the same order: so are fewer of them, and so is each
 module _ (m : ℕ) (later cells : List Cell) (from place : ℕ) (same : nodes m later from ≡ nodes m cells place) where
   pub fewer : (u : ℕ) → u ≤ m → nodes u later from ≡ nodes u cells place
-  fewer u h = front later from ∙ ap (take u) same ∙ sym (front cells place)
-    where
-      front : (list : List Cell) (i : ℕ) → nodes u list i ≡ take u (nodes m list i)
-      front list i =
-          let e : u + (m - u) ≡ m = omega arith in
-          let long = length_nodes list u i in
-          sym (ap (λ k. take u (nodes k list i)) (sym e) ∙ ap (take u) (nodes_add list u (m - u) i)
-          ∙ take-append-le u (nodes u list i) (nodes (m - u) list (after u list i)) (omega (arith, long)) ∙ take_all u (nodes u list i) (omega (arith, long)))
-
-  pub later_part : (u a : ℕ) → u + a ≡ m → nodes a later (after u later from) ≡ nodes a cells (after u cells place)
-  later_part u a e = sym (back u a later from e) ∙ ap (drop u) same ∙ back u a cells place e
-    where
-      back : (u a : ℕ) (list : List Cell) (i : ℕ) → u + a ≡ m → drop u (nodes m list i) ≡ nodes a list (after u list i)
-      back u a list i e =
-          let long = length_nodes list u i in
-          let back_of = nodes a list (after u list i) in
-          ap (λ k. drop u (nodes k list i)) (sym e) ∙ ap (drop u) (nodes_add list u a i)
-          ∙ drop-append-le u (nodes u list i) back_of (omega (arith, long)) ∙ ap (λ l. l ++ back_of) (drop_all u (nodes u list i) (omega (arith, long)))
+  fewer u h = sym (front_nodes later u m from h) ∙ ap (take u) same ∙ front_nodes cells u m place h
 
   pub same_place : (u : ℕ) → u < m → after u later from ≡ after u cells place
   same_place u h =
@@ -42,12 +27,12 @@ module _ (m : ℕ) (later cells : List Cell) (from place : ℕ) (same : nodes m 
 
 -- the first n cells are put behind the m that follow them
 pub record Moves (chain : Chain) (n m : ℕ) (now : List Cell) (front : ℕ) : Type 0 where
-  pub as_many : length now ≡ capacity_of chain
+  pub as_many : length now ≡ length chain.cells.now
   pub cells : nodes m now front ≡ nodes m chain.cells.now (after n chain.cells.now chain.first)
   pub behind : after m now front ≡ chain.first
   pub once : EachOnce (length now) (nodes (length now) now front)
 
-module _ (chain : Chain) (n m : ℕ) (some : 0 < n) (end last free : ℕ) (fits : n + m ≤ capacity_of chain)
+module _ (chain : Chain) (n m : ℕ) (some : 0 < n) (end last free : ℕ) (fits : n + m ≤ length chain.cells.now)
     (end_is : end ≡ after (n - 1) chain.cells.now chain.first) (last_is : last ≡ after (n + m - 1) chain.cells.now chain.first) (free_is : free ≡ after (n + m) chain.cells.now chain.first) where
   abbrev cells : List Cell
   cells = chain.cells.now
@@ -56,7 +41,7 @@ module _ (chain : Chain) (n m : ℕ) (some : 0 < n) (end last free : ℕ) (fits 
   first = chain.first
 
   abbrev rest : ℕ
-  rest = capacity_of chain - (n + m)
+  rest = length chain.cells.now - (n + m)
 
   abbrev closed : List Cell
   closed = relinked cells last first
@@ -67,19 +52,19 @@ module _ (chain : Chain) (n m : ℕ) (some : 0 < n) (end last free : ℕ) (fits 
   abbrev front : ℕ
   front = (cell_at closed end).next
 
-  end_below : end < capacity_of chain
+  end_below : end < length chain.cells.now
   end_below = omega (arith, end_is, below cells first chain.chained.each_once (n - 1) (omega arith))
 
-  last_below : last < capacity_of chain
+  last_below : last < length chain.cells.now
   last_below = omega (arith, last_is, below cells first chain.chained.each_once (n + m - 1) (omega arith))
 
-  closed_length : length closed ≡ capacity_of chain
+  closed_length : length closed ≡ length chain.cells.now
   closed_length = length-set cells last (record (cell_at cells last) { next = first })
 
   end_below_closed : end < length closed
   end_below_closed = omega (arith, closed_length, end_below)
 
-  moved_length : length moved ≡ capacity_of chain
+  moved_length : length moved ≡ length chain.cells.now
   moved_length = length-set closed end (record (cell_at closed end) { next = free }) ∙ closed_length
 
   -- where the two cells do not stand
@@ -95,7 +80,7 @@ module _ (chain : Chain) (n m : ℕ) (some : 0 < n) (end last free : ℕ) (fits 
   no_end_before =
       ap (λ p. times p (nodes (n - 1) cells first)) end_is ∙ before_it cells first chain.chained.each_once (n - 1) 0 (n - 1) (omega arith) (omega arith)
 
-  no_end_behind : (j k from : ℕ) → n - 1 < j → j + k ≤ capacity_of chain → from ≡ after j cells first → times end (nodes k cells from) ≡ 0
+  no_end_behind : (j k from : ℕ) → n - 1 < j → j + k ≤ length chain.cells.now → from ≡ after j cells first → times end (nodes k cells from) ≡ 0
   no_end_behind j k from h inside is =
       ap₂ (λ p q. times p (nodes k cells q)) end_is is ∙ behind_it cells first chain.chained.each_once (n - 1) j k h inside
 
@@ -187,10 +172,10 @@ module _ (chain : Chain) (n m : ℕ) (some : 0 < n) (end last free : ℕ) (fits 
   stays = stays_of m refl
 
   -- each cell is there once, as before
-  moved_all : (of : ℕ) → times of (nodes (capacity_of chain) moved front) ≡ times of (nodes (capacity_of chain) cells first)
+  moved_all : (of : ℕ) → times of (nodes (length chain.cells.now) moved front) ≡ times of (nodes (length chain.cells.now) cells first)
   moved_all of =
-      let there : m + (n + rest) ≡ capacity_of chain = omega arith in
-      let was : n + (m + rest) ≡ capacity_of chain = omega arith in
+      let there : m + (n + rest) ≡ length chain.cells.now = omega arith in
+      let was : n + (m + rest) ≡ length chain.cells.now = omega arith in
       let now = ap (λ i. times of (nodes i moved front)) (sym there)
       ∙ ap (times of) (nodes_add moved m (n + rest) front) ∙ times_append of (nodes m moved front) (nodes (n + rest) moved (after m moved front)) in
       let now_oldest = ap (λ p. times of (nodes (n + rest) moved p)) stays.behind
@@ -211,46 +196,44 @@ module _ (chain : Chain) (n m : ℕ) (some : 0 < n) (end last free : ℕ) (fits 
   pub moves : Moves chain n m moved front
   moves = record { as_many = moved_length; cells = stays.cells; behind = stays.behind; once = moved_once }
 
--- the cells behind so many
-drop_nodes : (cells : List Cell) (place n u all : ℕ) → n + u ≡ all → drop n (nodes all cells place) ≡ nodes u cells (after n cells place)
-drop_nodes cells place n u all e =
-    let long = length_nodes cells n place in
-    let back = nodes u cells (after n cells place) in
-    ap (λ k. drop n (nodes k cells place)) (sym e) ∙ ap (drop n) (nodes_add cells n u place)
-    ∙ drop-append-le n (nodes n cells place) back (omega (arith, long)) ∙ ap (λ l. l ++ back) (drop_all n (nodes n cells place) (omega (arith, long)))
-
 -- a chain whose oldest candidate is released
-module _ (chain : Chain) (n : ℕ) (oldest : Oldest chain.waiting chain.used (used_rooms chain) n) where
+module _ (chain : Chain) (n : ℕ) (oldest : Oldest chain.counts (in_turn chain.cells.now chain.first) n) where
+  abbrev old_cells : List Cell
+  old_cells = chain.cells.now
+
+  abbrev used : ℕ
+  used = chain.counts.used
+
   abbrev opens : ℕ
-  opens = added chain.unfinished
+  opens = added chain.counts.unfinished
 
   abbrev others : ℕ
-  others = chain.used - n + opens
+  others = used - n + opens
 
   abbrev end : ℕ
-  end = (cell_at chain.cells.now chain.first).last
+  end = (cell_at old_cells chain.first).last
 
-  end_is : end ≡ after (n - 1) chain.cells.now chain.first
-  end_is = end_cell chain oldest.some n oldest.counted
+  end_is : end ≡ after (n - 1) old_cells chain.first
+  end_is = end_cell chain oldest.some n oldest
 
-  fits : n + others ≤ capacity_of chain
-  fits = omega (arith, oldest.within, chain.chained.within)
+  all_held : n + others ≡ used + opens
+  all_held = omega (arith, oldest.within)
 
-  last_is : chain.last_held ≡ after (n + others - 1) chain.cells.now chain.first
+  fits : n + others ≤ length old_cells
+  fits = omega (arith, all_held, held_fits chain)
+
+  last_is : chain.last_held ≡ after (n + others - 1) old_cells chain.first
   last_is =
-      let e : chain.used + opens - 1 ≡ n + others - 1 = omega (arith, oldest.within) in
-      chain.chained.holds (omega (arith, oldest.within, oldest.not_empty)) ∙ ap (λ i. after i chain.cells.now chain.first) e
+      chain.chained.holds (omega (arith, oldest.within, oldest.not_empty)) ∙ ap (λ i. after (i - 1) old_cells chain.first) (sym all_held)
 
-  free_is : chain.first_free ≡ after (n + others) chain.cells.now chain.first
-  free_is =
-      let e : chain.used + opens ≡ n + others = omega (arith, oldest.within) in
-      chain.chained.frees ∙ ap (λ i. after i chain.cells.now chain.first) e
+  free_is : chain.first_free ≡ after (n + others) old_cells chain.first
+  free_is = chain.chained.frees ∙ ap (λ i. after i old_cells chain.first) (sym all_held)
 
   abbrev left : List Cell
-  left = relinked (relinked chain.cells.now chain.last_held chain.first) end chain.first_free
+  left = relinked (relinked old_cells chain.last_held chain.first) end chain.first_free
 
   abbrev front_left : ℕ
-  front_left = (cell_at (relinked chain.cells.now chain.last_held chain.first) end).next
+  front_left = (cell_at (relinked old_cells chain.last_held chain.first) end).next
 
   moved_left : Moves chain n others left front_left
   moved_left = moves chain n others oldest.not_empty end chain.last_held chain.first_free fits end_is last_is free_is
@@ -258,83 +241,68 @@ module _ (chain : Chain) (n : ℕ) (oldest : Oldest chain.waiting chain.used (us
   abbrev opens_at : ℕ
   opens_at = cond (eqb opens 0) chain.first chain.first_open
 
-  used_again : n + (chain.used - n) ≡ chain.used
+  used_again : n + (used - n) ≡ used
   used_again = omega (arith, oldest.within)
 
-  used_left : nodes (chain.used - n) left front_left ≡ drop (first_count (used_rooms chain)) (used_nodes chain)
+  -- what was held behind the oldest candidate comes first
+  behind : take (used + opens - n) (in_turn left front_left) ≡ drop n (take (used + opens) (in_turn old_cells chain.first))
+  behind =
+      let few : used + opens - n ≡ others = omega (arith, oldest.within) in
+      ap (λ k. take k (in_turn left front_left)) few
+      ∙ take_in_turn left front_left others (omega (arith, moved_left.as_many, fits)) ∙ ap rooms moved_left.cells
+      ∙ sym (ap (drop n) (take_in_turn old_cells chain.first (used + opens) (held_fits chain))
+      ∙ drop-map (λ node. node.room) n (nodes (used + opens) old_cells chain.first)
+      ∙ ap rooms (drop_nodes old_cells chain.first n others (used + opens) all_held))
+
+  used_left : nodes (used - n) left front_left ≡ drop (first_count (rooms (nodes used old_cells chain.first))) (nodes used old_cells chain.first)
   used_left =
-      fewer others left chain.cells.now front_left (after n chain.cells.now chain.first) moved_left.cells (chain.used - n) (omega arith)
-      ∙ sym (drop_nodes chain.cells.now chain.first n (chain.used - n) chain.used used_again)
-      ∙ ap (λ c. drop c (used_nodes chain)) oldest.counted
+      fewer others left old_cells front_left (after n old_cells chain.first) moved_left.cells (used - n) (omega arith)
+      ∙ sym (drop_nodes old_cells chain.first n (used - n) used used_again)
+      ∙ ap (λ c. drop c (nodes used old_cells chain.first)) (oldest.counted ∙ ap first_count (used_turn chain))
 
-  rooms_left : rooms (nodes (chain.used - n) left front_left) ≡ drop (first_count (used_rooms chain)) (used_rooms chain)
-  rooms_left =
-      ap rooms used_left
-      ∙ sym (drop-map (λ node. node.room) (first_count (used_rooms chain)) (used_nodes chain))
-
-  place_left : (u : ℕ) → u < others → after u left front_left ≡ after (n + u) chain.cells.now chain.first
+  place_left : (u : ℕ) → u < others → after u left front_left ≡ after (n + u) old_cells chain.first
   place_left u h =
-      same_place others left chain.cells.now front_left (after n chain.cells.now chain.first) moved_left.cells u h
-      ∙ sym (after_add chain.cells.now n u chain.first)
+      same_place others left old_cells front_left (after n old_cells chain.first) moved_left.cells u h
+      ∙ sym (after_add old_cells n u chain.first)
 
-  opens_left : opens_at ≡ after (chain.used - n) left front_left
+  opens_left : opens_at ≡ after (used - n) left front_left
   opens_left =
       elim (eqb_tells opens 0) [
         | inl none ↦
-            let e : others ≡ chain.used - n = omega (arith, none.1) in
+            let e : others ≡ used - n = omega (arith, none.1) in
             cond-true (eqb opens 0) chain.first chain.first_open none.0 ∙ sym moved_left.behind ∙ ap (λ i. after i left front_left) e
         | inr any ↦
-            let few : chain.used - n < others = omega (arith, any.1) in
+            let few : used - n < others = omega (arith, any.1) in
             cond-false (eqb opens 0) chain.first chain.first_open any.0 ∙ chain.chained.opens
-            ∙ ap (λ i. after i chain.cells.now chain.first) (sym used_again) ∙ sym (place_left (chain.used - n) few)
+            ∙ ap (λ i. after i old_cells chain.first) (sym used_again) ∙ sym (place_left (used - n) few)
       ]
 
-  open_left : nodes opens left opens_at ≡ nodes opens chain.cells.now chain.first_open
-  open_left =
-      elim (eqb_tells opens 0) [
-        | inl none ↦ ap (λ i. nodes i left opens_at) none.1 ∙ sym (ap (λ i. nodes i chain.cells.now chain.first_open) none.1)
-        | inr any ↦
-            ap (nodes opens left) opens_left
-            ∙ later_part others left chain.cells.now front_left (after n chain.cells.now chain.first) moved_left.cells (chain.used - n) opens refl
-            ∙ ap (nodes opens chain.cells.now)
-            (sym (after_add chain.cells.now n (chain.used - n) chain.first) ∙ ap (λ i. after i chain.cells.now chain.first) used_again ∙ sym chain.chained.opens)
-      ]
-
-  release_keeps : Chained left front_left opens_at chain.first chain.last_finished chain.last_held (chain.used - n) (chain.waiting - 1) chain.unfinished
+  release_keeps : Chained left front_left opens_at chain.first chain.last_finished chain.last_held (used - n) (chain.counts.waiting - 1) opens
   release_keeps =
       record {
-        most = omega (arith, moved_left.as_many, chain.chained.most);
-        within = omega (arith, moved_left.as_many, chain.chained.within);
         each_once = moved_left.once;
-        whole = ap (parted (chain.waiting - 1)) rooms_left ∙ (oldest_first chain oldest.some).whole;
-        ends = ap (last_cells_noted (chain.waiting - 1)) used_left ∙ (oldest_ends chain oldest.some).rest;
+        ends = ap (last_cells_noted (chain.counts.waiting - 1)) used_left ∙ (oldest_ends chain oldest.some).rest;
         opens = opens_left;
         frees = sym moved_left.behind;
         finishes = λ h.
-            let e : chain.used - 1 ≡ n + (chain.used - n - 1) = omega arith in
-            chain.chained.finishes (omega arith) ∙ ap (λ i. after i chain.cells.now chain.first) e ∙ sym (place_left (chain.used - n - 1) (omega arith));
+            let e : used - 1 ≡ n + (used - n - 1) = omega arith in
+            chain.chained.finishes (omega arith) ∙ ap (λ i. after i old_cells chain.first) e ∙ sym (place_left (used - n - 1) (omega arith));
         holds = λ h.
             let e : n + others - 1 ≡ n + (others - 1) = omega arith in
-            last_is ∙ ap (λ i. after i chain.cells.now chain.first) e ∙ sym (place_left (others - 1) (omega arith));
+            last_is ∙ ap (λ i. after i old_cells chain.first) e ∙ sym (place_left (others - 1) (omega arith));
       }
 
-  finished_left : grouped (chain.waiting - 1) (rooms (nodes (chain.used - n) left front_left)) ≡ after_release (finished_in chain)
-  finished_left = ap (grouped (chain.waiting - 1)) rooms_left ∙ sym (ap after_release (oldest_first chain oldest.some).candidates)
+  many_left : length (in_turn left front_left) ≡ capacity_of chain
+  many_left = length_in_turn left front_left ∙ moved_left.as_many ∙ as_many chain
 
-  opened_left : unfinished_in chain.unfinished (rooms (nodes opens left opens_at)) ≡ opened_in chain
-  opened_left = ap (λ l. unfinished_in chain.unfinished (rooms l)) open_left
-
-  pub may_move : (end < capacity_of chain) × (chain.last_held < capacity_of chain)
-  may_move = (
+  may_move_now : (end < length old_cells) × (chain.last_held < length old_cells)
+  may_move_now = (
     omega (arith, end_is, cell_below chain (n - 1) (omega (arith, fits, oldest.not_empty))),
     omega (arith, last_is, cell_below chain (n + others - 1) (omega (arith, fits, oldest.not_empty))),
   )
 
 -- what is kept, and held, after a release
-module _ (chain : Chain) (some : 0 < chain.waiting) where
-  abbrev oldest_count : ℕ
-  oldest_count = first_count (used_rooms chain)
-
+module _ (chain : Chain) (n : ℕ) (oldest : Oldest chain.counts (in_turn chain.cells.now chain.first) n) where
   abbrev now : List Cell
   now = moved_behind chain.cells.now chain.first (cell_at chain.cells.now chain.first).last chain.last_held chain.first_free
 
@@ -342,19 +310,28 @@ module _ (chain : Chain) (some : 0 < chain.waiting) where
   first_now = first_behind chain.cells.now chain.first (cell_at chain.cells.now chain.first).last chain.last_held
 
   abbrev first_open_now : ℕ
-  first_open_now = cond (eqb (added chain.unfinished) 0) chain.first chain.first_open
+  first_open_now = cond (eqb (added chain.counts.unfinished) 0) chain.first chain.first_open
 
-  is : Oldest chain.waiting chain.used (used_rooms chain) oldest_count
-  is = oldest_is chain some oldest_count refl
-
-  pub moved_kept : Chained now first_now first_open_now chain.first chain.last_finished chain.last_held (chain.used - oldest_count) (chain.waiting - 1) chain.unfinished
+  pub moved_kept : Chained now first_now first_open_now chain.first chain.last_finished chain.last_held (chain.counts.used - n) (chain.counts.waiting - 1) (added chain.counts.unfinished)
   unfolding moved_behind first_behind
-  moved_kept = release_keeps chain oldest_count is
+  moved_kept = release_keeps chain n oldest
 
-  pub moved_finished : grouped (chain.waiting - 1) (rooms (nodes (chain.used - oldest_count) now first_now)) ≡ after_release (finished_in chain)
+  pub moved_many : length (in_turn now first_now) ≡ capacity_of chain
   unfolding moved_behind first_behind
-  moved_finished = finished_left chain oldest_count is
+  moved_many = many_left chain n oldest
 
-  pub moved_opened : unfinished_in chain.unfinished (rooms (nodes (added chain.unfinished) now first_open_now)) ≡ opened_in chain
-  unfolding moved_behind
-  moved_opened = opened_left chain oldest_count is
+  pub moved_whole : parted (chain.counts.waiting - 1) (take (chain.counts.used - n) (in_turn now first_now)) ≡ true
+  unfolding moved_behind first_behind
+  moved_whole = whole_behind chain.counts (in_turn chain.cells.now chain.first) (in_turn now first_now) n chain.counted oldest (behind chain n oldest)
+
+  pub moved_finished : grouped (chain.counts.waiting - 1) (take (chain.counts.used - n) (in_turn now first_now)) ≡ after_release (finished_in chain)
+  unfolding moved_behind first_behind
+  moved_finished = finished_behind chain.counts (in_turn chain.cells.now chain.first) (in_turn now first_now) n chain.counted oldest (behind chain n oldest)
+
+  pub moved_opened : unfinished_in chain.counts.unfinished (drop (chain.counts.used - n) (in_turn now first_now)) ≡ opened_in chain
+  unfolding moved_behind first_behind
+  moved_opened = open_behind chain.counts (in_turn chain.cells.now chain.first) (in_turn now first_now) n chain.counted oldest (behind chain n oldest)
+
+pub may_move : (chain : Chain) (n : ℕ) → Oldest chain.counts (in_turn chain.cells.now chain.first) n →
+    ((cell_at chain.cells.now chain.first).last < length chain.cells.now) × (chain.last_held < length chain.cells.now)
+may_move chain n oldest = may_move_now chain n oldest

@@ -2,3 +2,4 @@
 pub mod Links
 pub mod Sound
 pub mod Held
+pub mod Taken

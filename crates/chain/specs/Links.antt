@@ -1,11 +1,12 @@
 -- Cells in the order of their links. Assumes nothing.
-use Rattle.std.specs.Prelude.{◌≡◌, ℕ, zero, suc, ◌+◌, ◌-◌, ◌<◌, ◌≤◌, Bool, true, cond, ◌&&◌, List, [], ◌∷◌, map, length, drop, Option, ◌==◌, nat_lt, slice_index_or, slice_set}
-use Rattle.ring.specs.declared.cells.Cell.{Cell as Room}
-use Rattle.ring.specs.Cells.{first_count, parted, added}
-use Rattle.chain.specs.declared.cells.Cell.{Cell}
+use Rattle.std.specs.Prelude.{◌≡◌, ℕ, zero, suc, ◌+◌, ◌-◌, ◌<◌, Bool, true, cond, ◌&&◌, List, [], ◌∷◌, map, length, drop, ◌==◌, nat_lt, slice_index_or, slice_set}
+use Rattle.cells.specs.declared.cell.Cell.{Cell as Room}
+use Rattle.cells.specs.Cells.{first_count}
+use Rattle.cells.specs.Held.{blank as no_room}
+use Rattle.chain.specs.declared.chain.LinkedCell.{LinkedCell as Cell}
 
 abbrev pub blank : Cell
-blank = record { octets = []; codeblocks = 0; last = 0; next = 0 }
+blank = record { room = no_room; last = 0; next = 0 }
 
 abbrev pub cell_at : List Cell → ℕ → Cell
 cell_at cells place = slice_index_or cells place blank
@@ -22,7 +23,7 @@ pub record Node : Type 0 where
   pub last : ℕ
 
 abbrev pub node_of : ℕ → Cell → Node
-node_of place cell = record { place = place; room = record { octets = cell.octets; codeblocks = cell.codeblocks }; last = cell.last }
+node_of place cell = record { place = place; room = cell.room; last = cell.last }
 
 -- so many cells from a place on, each the one to which the one before links
 abbrev pub nodes : ℕ → List Cell → ℕ → List Node
@@ -31,6 +32,10 @@ nodes (suc n) cells place = node_of place (cell_at cells place) ∷ nodes n cell
 
 abbrev pub rooms : List Node → List Room
 rooms list = map (λ node. node.room) list
+
+-- what every cell holds, from a first one on by the links
+abbrev pub in_turn : List Cell → ℕ → List Room
+in_turn cells first = rooms (nodes (length cells) cells first)
 
 -- how often a cell is in a list
 abbrev pub times : ℕ → List Node → ℕ
@@ -43,7 +48,7 @@ EachOnce count list = (place : ℕ) → times place list ≡ cond (nat_lt place 
 
 -- stands past the end of a list
 abbrev pub no_node : Node
-no_node = record { place = 0; room = record { octets = []; codeblocks = 0 }; last = 0 }
+no_node = record { place = 0; room = no_room; last = 0 }
 
 -- the place of a cell of a list
 abbrev pub place_in : List Node → ℕ → ℕ
@@ -64,13 +69,14 @@ LinkInTurn cells = (place : ℕ) → place < length cells → (cell_at cells pla
 abbrev pub relinked : (cells : List Cell) (place next : ℕ) → List Cell
 relinked cells place next = slice_set cells place (record (cell_at cells place) { next = next })
 
--- cells of which one has other octets
-unfoldable pub filled : (cells : List Cell) (place : ℕ) (octets : List ℕ) → List Cell
-filled cells place octets = slice_set cells place (record (cell_at cells place) { octets = octets })
+-- cells of which one holds another codeblock
+unfoldable pub filled : (cells : List Cell) (place : ℕ) (codeblock : Room) → List Cell
+filled cells place codeblock = slice_set cells place (record (cell_at cells place) { room = codeblock })
 
 -- cells of which one has a candidate's codeblocks and last cell
 unfoldable pub noted : (cells : List Cell) (place codeblocks last : ℕ) → List Cell
-noted cells place codeblocks last = slice_set cells place (record (cell_at cells place) { codeblocks = codeblocks; last = last })
+noted cells place codeblocks last =
+    slice_set cells place (record (cell_at cells place) { room = record { octets = (cell_at cells place).room.octets; codeblocks = codeblocks }; last = last })
 
 -- cells of which those from the first to an end come behind the last held one and before the first free one,
 -- and which comes first then
@@ -80,16 +86,13 @@ moved_behind cells first end last_held first_free = relinked (relinked cells las
 unfoldable pub first_behind : (cells : List Cell) (first end last_held : ℕ) → ℕ
 first_behind cells first end last_held = (cell_at (relinked cells last_held first) end).next
 
--- what a chain keeps of its cells
-pub record Chained (cells : List Cell) (first first_open first_free last_finished last_held used waiting : ℕ) (unfinished : Option ℕ) : Type 0 where
-  pub most : length cells ≤ 65535
-  pub within : used + added unfinished ≤ length cells
+-- what a chain keeps of its cells, by how many the finished candidates have, how many wait, and how many the open one has
+pub record Chained (cells : List Cell) (first first_open first_free last_finished last_held used waiting opened : ℕ) : Type 0 where
   -- by the links from the first cell on, every cell comes once
   pub each_once : EachOnce (length cells) (nodes (length cells) cells first)
   -- those of the finished candidates come first, then those of the open one, then the free ones
-  pub whole : parted waiting (rooms (nodes used cells first)) ≡ true
   pub ends : last_cells_noted waiting (nodes used cells first) ≡ true
   pub opens : first_open ≡ after used cells first
-  pub frees : first_free ≡ after (used + added unfinished) cells first
+  pub frees : first_free ≡ after (used + opened) cells first
   pub finishes : 0 < used → last_finished ≡ after (used - 1) cells first
-  pub holds : 0 < used + added unfinished → last_held ≡ after (used + added unfinished - 1) cells first
+  pub holds : 0 < used + opened → last_held ≡ after (used + opened - 1) cells first

@@ -2,30 +2,29 @@
 //! constant time for each call but the making and a read.
 #![tactic(auto)]
 
-ghost use Rattle.std.specs.Prelude.{◌≡◌, ℕ, ◌+◌, ◌-◌, ◌*◌, ◌/◌, ◌<◌, ◌≤◌, ◌==◌, cond, min, [], length, Some as present, None as absent, Ok, MatchResult, slice_index};
+ghost use Rattle.std.specs.Prelude.{◌≡◌, ℕ, ◌+◌, ◌-◌, ◌/◌, ◌<◌, ◌≤◌, ◌==◌, cond, min, [], length, None as absent, Ok, MatchResult, OnOk};
 ghost use Rattle.randomizer.specs.declared.Randomizer.TheVariants.{Off};
-ghost use Rattle.hold.specs.Candidates.{Matches, finished_codeblocks, open_codeblocks, oldest_octet, stretch_answer, after_stretch};
+ghost use Rattle.hold.specs.Candidates.{Matches, add_answer, after_add, stretch_answer, after_stretch};
 ghost use Rattle.hold.specs.Plain.{plain_showing, plain_shows_apart};
-ghost use Rattle.ring.specs.Cells.{added};
-ghost use Rattle.ring.specs.Held.{oldest_of, Open, NoneOpen, NoneWaits, Oldest};
-ghost use Rattle.chain.specs.Links.{LinkInTurn, cell_at, after, filled, noted, moved_behind, first_behind};
-ghost use Rattle.chain.specs.Held.{capacity_of, used_rooms, finished_in, opened_in, sound_chain};
+ghost use Rattle.cells.specs.Cells.{added};
+ghost use Rattle.cells.specs.Held.{oldest_of, Oldest, NoneWaits};
+ghost use Rattle.chain.specs.Links.{LinkInTurn, in_turn, cell_at, after, filled, noted, moved_behind, first_behind};
+ghost use Rattle.chain.specs.Held.{capacity_of, finished_in, opened_in, sound_chain};
+ghost use Rattle.chain.specs.Taken.{TakesFree};
 
+use bch::INFORMATION_OCTETS;
+use cells::{Cell, Counts, stretch_within};
 use hold::Hold;
 use refusals::Refusal;
 
-mod cells;
+mod chain;
 
-pub use cells::{Cell, Chain};
+pub use chain::{Chain, LinkedCell};
 
-// So many that which cell comes next fits a cell.
-const MOST_CELLS: usize = u16::MAX as usize;
-
-impl Cell {
+impl LinkedCell {
     /// A cell to make memory for a chain of.
-    pub const EMPTY: Cell = Cell {
-        octets: [0; 7],
-        codeblocks: 0,
+    pub const EMPTY: LinkedCell = LinkedCell {
+        room: Cell::EMPTY,
         last: 0,
         next: 0,
     };
@@ -33,7 +32,7 @@ impl Cell {
 
 // Links each cell to the one that lies behind it.
 #[tactic(auto, unfolding(crate::specs::Links::LinkInTurn))]
-fn link_in_turn(cells: &mut [Cell])
+fn link_in_turn(cells: &mut [LinkedCell])
     requires { length cells.old ≤ 65535 }
     ensures { LinkInTurn cells.new }
 {
@@ -44,31 +43,37 @@ fn link_in_turn(cells: &mut [Cell])
 
 // Puts a codeblock into a cell, and gives which cell comes next.
 #[tactic(auto, unfolding(crate::specs::Links::filled))]
-fn fill(cells: &mut [Cell], place: u16, octets: [u8; 7]) -> u16
+fn fill(cells: &mut [LinkedCell], place: u16, codeblock: Cell) -> u16
     requires { place < length cells.old }
-    ensures cells { cells.new ≡ filled cells.old place octets }
+    ensures cells { cells.new ≡ filled cells.old place codeblock }
     ensures next { result ≡ (cell_at cells.old place).next }
 {
     let cell = &mut cells[place as usize];
-    cell.octets = octets;
+    cell.room = codeblock;
     cell.next
 }
 
 // Notes in the first cell of a candidate how many codeblocks it has, and which cell is its last.
 #[tactic(auto, unfolding(crate::specs::Links::noted))]
-fn note(cells: &mut [Cell], place: u16, codeblocks: u16, last: u16)
+fn note(cells: &mut [LinkedCell], place: u16, codeblocks: u16, last: u16)
     requires { place < length cells.old }
     ensures { cells.new ≡ noted cells.old place codeblocks last }
 {
     let cell = &mut cells[place as usize];
-    cell.codeblocks = codeblocks;
+    cell.room.codeblocks = codeblocks;
     cell.last = last;
 }
 
 // Takes the cells from the first of all to `end` off the front, and puts them behind the last that is
 // held and before the first free one. Gives which cell comes first then.
 #[tactic(auto, unfolding(crate::specs::Links::moved_behind, crate::specs::Links::first_behind))]
-fn move_behind(cells: &mut [Cell], first: u16, end: u16, last_held: u16, first_free: u16) -> u16
+fn move_behind(
+    cells: &mut [LinkedCell],
+    first: u16,
+    end: u16,
+    last_held: u16,
+    first_free: u16,
+) -> u16
     requires { (end < length cells.old) × (last_held < length cells.old) }
     ensures cells { cells.new ≡ moved_behind cells.old first end last_held first_free }
     ensures first { result ≡ first_behind cells.old first end last_held }
@@ -84,16 +89,16 @@ impl<'a> Chain<'a> {
     /// A chain of these cells, or of the first 65,535 of them where there are more, in which no candidate
     /// is open and none waits. What the cells held before does not show. It refuses nothing: with no
     /// cells at all it is a chain with no space.
-    #[tactic(auto, using(crate::proofs::Begin::new_chained, crate::proofs::Begin::few_taken, hold::proofs::Plain::plain_matches))]
-    pub fn new(cells: &'a mut [Cell]) -> Chain<'a>
+    #[tactic(auto, using(crate::proofs::Begin::few_taken, hold::proofs::Plain::plain_matches))]
+    pub fn new(cells: &'a mut [LinkedCell]) -> Chain<'a>
         ensures capacity { ⟦<Chain<'static> as Hold>⟧.capacity result ≡ min (length cells.old) 65535 }
         ensures finished { ⟦<Chain<'static> as Hold>⟧.finished result ≡ [] }
         ensures opened { ⟦<Chain<'static> as Hold>⟧.opened result ≡ absent }
         ensures showing { ⟦<Chain<'static> as Hold>⟧.showing ≡ plain_showing }
         ensures matches { Matches ⟦<Chain<'static> as Hold>⟧.showing Off }
     {
-        let most = cells.len().min(MOST_CELLS);
-        let cells = &mut cells[..most];
+        let counts = Counts::of_nothing(cells.len());
+        let cells = &mut cells[..counts.cells];
         link_in_turn(cells);
         Chain {
             cells,
@@ -102,55 +107,36 @@ impl<'a> Chain<'a> {
             first_free: 0,
             last_finished: 0,
             last_held: 0,
-            used: 0,
-            waiting: 0,
-            unfinished: None,
+            counts,
         }
-    }
-
-    // How many codeblocks are held, finished or open.
-    #[tactic(auto, using(crate::specs::Held::finished_is_used, crate::specs::Held::open_is_added))]
-    fn held(&self) -> usize
-        ensures cells { result ≡ self.now.used + added self.now.unfinished }
-        ensures finished { finished_codeblocks (finished_in self.now) ≡ self.now.used }
-        ensures opened { open_codeblocks (opened_in self.now) ≡ added self.now.unfinished }
-    {
-        self.used + self.unfinished.unwrap_or(0)
-    }
-
-    // How many codeblocks the open candidate has. Refused where none is open.
-    #[tactic(auto, using(crate::proofs::Writes::is_open))]
-    fn unfinished_codeblocks(&self) -> Result<usize, Refusal>
-        ensures { MatchResult result (Open self.now.unfinished self.now.waiting (opened_in self.now)) (NoneOpen self.now.unfinished) }
-    {
-        self.unfinished.ok_or(Refusal::NoCandidateOpen)
     }
 
     // How many codeblocks the oldest finished candidate has. Refused where none waits.
     #[tactic(auto, using(crate::proofs::Oldest::oldest_counted, crate::proofs::Oldest::first_below))]
-    fn oldest(&self) -> Result<usize, Refusal>
-        ensures { MatchResult result (Oldest self.now.waiting self.now.used (used_rooms self.now)) (NoneWaits (finished_in self.now)) }
+    fn oldest(&self) -> Result<u16, Refusal>
+        ensures { MatchResult result (Oldest self.now.counts (in_turn self.now.cells.now self.now.first)) (NoneWaits (finished_in self.now)) }
     {
-        if self.waiting == 0 {
+        if self.counts.waiting == 0 {
             return Err(Refusal::NoCandidate);
         }
-        Ok(self.cells[self.first as usize].codeblocks as usize)
+        Ok(self.cells[self.first as usize].room.codeblocks)
     }
 
     // Which cell the open candidate begins with where this one is the first free one.
     fn first_open_if_free(&self, first_free: u16) -> u16
-        ensures { result ≡ cond (added self.now.unfinished == 0) first_free self.now.first_open }
+        ensures { result ≡ cond (added self.now.counts.unfinished == 0) first_free self.now.first_open }
     {
-        match self.unfinished {
-            Some(codeblocks) if codeblocks > 0 => self.first_open,
-            _ => first_free,
+        if self.counts.open_codeblocks() == 0 {
+            first_free
+        } else {
+            self.first_open
         }
     }
 
     // Which cell so many links lead to from the first of all.
     #[tactic(auto, using(crate::proofs::Links::after_more, crate::proofs::Oldest::cell_below))]
     fn cell_after(&self, links: usize) -> u16
-        requires { links < capacity_of self.now }
+        requires { links < length self.now.cells.now }
         ensures { result ≡ after links self.now.cells.now self.now.first }
     {
         let mut place = self.first;
@@ -167,7 +153,7 @@ impl<'a> Chain<'a> {
         requires { (cell ≡ after (place / 7) self.now.cells.now self.now.first) × (place < length (oldest_of (finished_in self.now))) }
         ensures { result ≡ after ((place + 1) / 7) self.now.cells.now self.now.first }
     {
-        if place % 7 == 6 {
+        if place % INFORMATION_OCTETS == INFORMATION_OCTETS - 1 {
             self.cells[cell as usize].next
         } else {
             cell
@@ -177,16 +163,16 @@ impl<'a> Chain<'a> {
     // Reads a stretch of the oldest finished candidate, from a place on, into memory that is as long.
     #[tactic(auto, using(crate::proofs::Oldest::oldest_short, crate::proofs::Oldest::links_below, crate::proofs::Oldest::octet_cell_below, crate::proofs::Oldest::octet_read, crate::proofs::Oldest::stretch_answered, crate::proofs::Oldest::all_read))]
     fn read(&self, place: usize, memory: &mut [u8])
-        requires { (0 < self.now.waiting) × (length memory.old ≤ length (oldest_of (finished_in self.now)) - place) }
+        requires { (0 < self.now.counts.waiting) × (length memory.old ≤ length (oldest_of (finished_in self.now)) - place) }
         ensures answer { stretch_answer (finished_in self.now) place memory.old ≡ Ok tt }
         ensures memory { memory.new ≡ after_stretch (finished_in self.now) place memory.old }
     {
         if memory.is_empty() {
             return;
         }
-        let mut cell = self.cell_after(place / 7);
+        let mut cell = self.cell_after(place / INFORMATION_OCTETS);
         for (i, octet) in memory.iter_mut().enumerate() {
-            *octet = self.cells[cell as usize].octets[(place + i) % 7];
+            *octet = self.cells[cell as usize].room.octets[(place + i) % INFORMATION_OCTETS];
             cell = self.cell_of_next(cell, place + i);
         }
     }
@@ -206,92 +192,84 @@ impl<'a> Hold for Chain<'a> {
     ghost sound = { λ chain. sound_chain chain };
 
     fn open(&mut self) -> Result<(), Refusal> {
-        if self.unfinished.is_some() {
-            return Err(Refusal::CandidateOpen);
-        }
-        self.unfinished = Some(0);
-        Ok(())
+        self.counts.open()
     }
 
-    #[tactic(auto, using(crate::proofs::Writes::free_below, crate::proofs::Writes::add_answered, crate::proofs::Writes::filled_kept, crate::proofs::Writes::filled_finished, crate::proofs::Writes::filled_opened))]
-    fn add(&mut self, octets: [u8; 7]) -> Result<(), Refusal> {
-        let codeblocks = self.unfinished_codeblocks()?;
-        if self.held() == self.cells.len() {
-            return Err(Refusal::NoFreeSpace);
-        }
+    #[tactic(auto, using(crate::proofs::Writes::filled_finished, crate::proofs::Writes::filled_opened))]
+    fn add(&mut self, octets: [u8; 7]) -> Result<(), Refusal>
+        ensures answer { result ≡ add_answer (capacity_of self.old) (finished_in self.old) (opened_in self.old) }
+        ensures capacity { capacity_of self.new ≡ capacity_of self.old }
+        ensures finished { finished_in self.new ≡ finished_in self.old }
+        ensures opened { opened_in self.new ≡ after_add plain_showing (capacity_of self.old) (finished_in self.old) (opened_in self.old) octets }
+        // The codeblock goes into a cell that no candidate had, and all other cells are as they were.
+        ensures takes { OnOk result (TakesFree self.old self.new octets) }
+    {
+        let mut counts = self.counts;
+        counts.add()?;
+        let codeblock = Cell {
+            octets,
+            codeblocks: 0,
+        };
         let place = self.first_free;
-        self.first_free = fill(self.cells, place, octets);
+        self.first_free = fill(self.cells, place, codeblock);
         self.last_held = place;
-        self.unfinished = Some(codeblocks + 1);
+        self.counts = counts;
         Ok(())
     }
 
-    #[tactic(auto, using(crate::proofs::Writes::first_open_below, crate::proofs::Writes::noted_kept, crate::proofs::Writes::noted_finished))]
+    #[tactic(auto, using(crate::proofs::Writes::noted_finished, crate::proofs::Writes::noted_opened))]
     fn finish(&mut self) -> Result<(), Refusal> {
-        let codeblocks = self.unfinished_codeblocks()?;
-        if codeblocks == 0 {
-            return Err(Refusal::CandidateEmpty);
-        }
-        note(
-            self.cells,
-            self.first_open,
-            codeblocks as u16,
-            self.last_held,
-        );
+        let mut counts = self.counts;
+        let codeblocks = counts.finish()?;
+        note(self.cells, self.first_open, codeblocks, self.last_held);
         self.last_finished = self.last_held;
         self.first_open = self.first_free;
-        self.used += codeblocks;
-        self.waiting += 1;
-        self.unfinished = None;
+        self.counts = counts;
         Ok(())
     }
 
     fn abandon(&mut self) -> Result<(), Refusal> {
-        if self.unfinished.is_none() {
-            return Err(Refusal::NoCandidateOpen);
-        }
+        let mut counts = self.counts;
+        counts.abandon()?;
         self.first_free = self.first_open;
         self.last_held = self.last_finished;
-        self.unfinished = None;
+        self.counts = counts;
         Ok(())
     }
 
-    #[tactic(auto, using(crate::proofs::Oldest::first_below, crate::proofs::Releases::may_move, crate::proofs::Releases::moved_kept, crate::proofs::Releases::moved_finished, crate::proofs::Releases::moved_opened))]
+    #[tactic(auto, using(crate::proofs::Oldest::first_below, crate::proofs::Releases::may_move, crate::proofs::Releases::moved_finished, crate::proofs::Releases::moved_opened))]
     fn release(&mut self) -> Result<(), Refusal> {
-        let codeblocks = self.oldest()?;
+        let codeblocks = self.oldest()? as usize;
         let freed = self.first;
         let end = self.cells[freed as usize].last;
         let first_open = self.first_open_if_free(freed);
         self.first = move_behind(self.cells, freed, end, self.last_held, self.first_free);
         self.first_open = first_open;
         self.first_free = freed;
-        self.used -= codeblocks;
-        self.waiting -= 1;
+        self.counts.waiting -= 1;
+        self.counts.used -= codeblocks;
         Ok(())
     }
 
     fn free_space(&self) -> usize {
-        self.cells.len() - self.held()
+        self.counts.free_space()
     }
 
     fn open_codeblocks(&self) -> usize {
-        self.held() - self.used
+        self.counts.open_codeblocks()
     }
 
     #[tactic(auto, using(crate::proofs::Oldest::length_finished))]
     fn finished_count(&self) -> usize {
-        self.waiting
+        self.counts.waiting
     }
 
     fn oldest_length(&self) -> Result<usize, Refusal> {
-        Ok(7 * self.oldest()?)
+        Ok(INFORMATION_OCTETS * self.oldest()? as usize)
     }
 
     fn read_oldest(&self, place: usize, memory: &mut [u8]) -> Result<(), Refusal> {
-        let codeblocks = self.oldest()?;
-        if memory.len() > (7 * codeblocks).saturating_sub(place) {
-            return Err(Refusal::PastCandidateEnd);
-        }
+        stretch_within(self.oldest_length()?, place, memory.len())?;
         self.read(place, memory);
         Ok(())
     }
@@ -304,7 +282,7 @@ mod tests {
 
     #[test]
     fn three_cells(rt: HostRuntime) -> Result<(), Fail> {
-        let mut cells = [Cell::EMPTY; 3];
+        let mut cells = [LinkedCell::EMPTY; 3];
         let mut chain = Chain::new(&mut cells);
         for octet in 1..6 {
             chain.open()?;

@@ -3,7 +3,7 @@
 //! derandomizing layer, and with no cells.
 #![tactic(auto)]
 
-use chain::Chain;
+use chain::{Chain, LinkedCell};
 use derandomizing::Derandomizing;
 use hold::{Hold, copy_oldest};
 use randomizer::Randomizer;
@@ -262,7 +262,7 @@ fn tried<R: Hold + Drop, C: Hold + Drop>(
 fn main(rt: HostRuntime) -> anyhow::Result<()> {
     let heap = rt.alloc();
     let mut cells = [Cell::EMPTY; 5];
-    let mut links = [chain::Cell::EMPTY; 5];
+    let mut links = [LinkedCell::EMPTY; 5];
     let (ring, chain) = (Ring::new(&mut cells), Chain::new(&mut links));
     let model = Model::new(heap, 5, Randomizer::Off);
     tried(&rt, "ring and chain of 5 cells", ring, chain, model, 20000)?;
@@ -284,13 +284,13 @@ fn main(rt: HostRuntime) -> anyhow::Result<()> {
     tried(&rt, "layers over both", ring, chain, model, 20000)?;
 
     let mut cells = [Cell::EMPTY; 9];
-    let mut links = [chain::Cell::EMPTY; 9];
+    let mut links = [LinkedCell::EMPTY; 9];
     let (ring, chain) = (Ring::new(&mut cells), Chain::new(&mut links));
     let model = Model::new(heap, 9, Randomizer::Off);
     tried(&rt, "ring and chain of 9 cells", ring, chain, model, 20000)?;
 
     let mut cells = [Cell::EMPTY; 0];
-    let mut links = [chain::Cell::EMPTY; 0];
+    let mut links = [LinkedCell::EMPTY; 0];
     let (ring, chain) = (Ring::new(&mut cells), Chain::new(&mut links));
     let model = Model::new(heap, 0, Randomizer::Off);
     tried(&rt, "ring and chain of no cells", ring, chain, model, 2000)?;

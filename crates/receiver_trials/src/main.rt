@@ -3,7 +3,7 @@
 
 use anyhow::Context;
 use bch::Mode;
-use chain::Chain;
+use chain::{Chain, LinkedCell};
 use cltu::{CodeblockLimit, LONGEST_CLTU, Sender};
 use decoding::Settings;
 use derandomizing::Derandomizing;
@@ -857,7 +857,7 @@ fn run<T: Trial>(
             run_over(heap, setup, ring, trial, numbers, tally)
         }
         Store::Chain => {
-            let mut cells = vec![in heap; chain::Cell::EMPTY; setup.cells]?;
+            let mut cells = vec![in heap; LinkedCell::EMPTY; setup.cells]?;
             let chain = Chain::new(cells.as_mut_slice());
             run_over(heap, setup, chain, trial, numbers, tally)
         }

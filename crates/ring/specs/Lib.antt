@@ -1,4 +1,2 @@
--- What a ring's cells hold, and what its calls leave. Assumes nothing.
-pub mod Cells
-pub mod Sound
+-- What a ring holds. Assumes nothing.
 pub mod Held

@@ -1,31 +1,23 @@
 //! A hold of candidates in lent cells: no allocation, and constant time for each call but a read.
 #![tactic(auto)]
 
-ghost use Rattle.std.specs.Prelude.{◌≡◌, ◌+◌, ◌-◌, ◌<◌, ◌≤◌, min, [], length, Some as present, None as absent, Ok, MatchResult, slice_index};
+ghost use Rattle.std.specs.Prelude.{◌≡◌, ◌-◌, ◌<◌, ◌≤◌, min, [], length, None as absent, Ok, MatchResult, slice_index};
 ghost use Rattle.randomizer.specs.declared.Randomizer.TheVariants.{Off};
-ghost use Rattle.hold.specs.Candidates.{Matches, finished_codeblocks, open_codeblocks, oldest_octet, stretch_answer, after_stretch};
+ghost use Rattle.hold.specs.Candidates.{Matches, stretch_answer, after_stretch};
 ghost use Rattle.hold.specs.Plain.{plain_showing, plain_shows_apart};
-ghost use Rattle.ring.specs.Cells.{added};
-ghost use Rattle.ring.specs.Held.{capacity_of, used_cells, finished_in, opened_in, oldest_of, sound_ring, Open, NoneOpen, NoneWaits, Oldest};
+ghost use Rattle.cells.specs.Held.{oldest_of, Oldest, NoneWaits};
+ghost use Rattle.ring.specs.Held.{in_turn, capacity_of, finished_in, opened_in, sound_ring};
 
+use bch::INFORMATION_OCTETS;
+use cells::{Counts, stretch_within};
 use circular::Circle;
 use hold::Hold;
 use refusals::Refusal;
 
-mod cells;
+mod ring;
 
-pub use cells::{Cell, Ring};
-
-// So many that the count of a candidate's codeblocks fits its cell.
-const MOST_CELLS: usize = u16::MAX as usize;
-
-impl Cell {
-    /// A cell to make memory for a ring of.
-    pub const EMPTY: Cell = Cell {
-        octets: [0; 7],
-        codeblocks: 0,
-    };
-}
+pub use cells::Cell;
+pub use ring::Ring;
 
 impl<'a> Ring<'a> {
     /// A ring over these cells, or the first 65,535 of them where there are more, in which no candidate
@@ -39,42 +31,20 @@ impl<'a> Ring<'a> {
         ensures showing { ⟦<Ring<'static> as Hold>⟧.showing ≡ plain_showing }
         ensures matches { Matches ⟦<Ring<'static> as Hold>⟧.showing Off }
     {
-        let most = cells.len().min(MOST_CELLS);
-        Ring {
-            cells: Circle::new(&mut cells[..most]),
-            used: 0,
-            waiting: 0,
-            unfinished: None,
-        }
-    }
-
-    // How many codeblocks are held, finished or open.
-    #[tactic(auto, using(crate::proofs::Turns::finished_is_used, crate::proofs::Turns::open_is_added))]
-    fn held(&self) -> usize
-        ensures cells { result ≡ self.now.used + added self.now.unfinished }
-        ensures finished { finished_codeblocks (finished_in self.now) ≡ self.now.used }
-        ensures opened { open_codeblocks (opened_in self.now) ≡ added self.now.unfinished }
-    {
-        self.used + self.unfinished.unwrap_or(0)
-    }
-
-    // How many codeblocks the open candidate has. Refused where none is open.
-    #[tactic(auto, using(crate::proofs::Writes::is_open))]
-    fn unfinished_codeblocks(&self) -> Result<usize, Refusal>
-        ensures { MatchResult result (Open self.now.unfinished self.now.waiting (opened_in self.now)) (NoneOpen self.now.unfinished) }
-    {
-        self.unfinished.ok_or(Refusal::NoCandidateOpen)
+        let counts = Counts::of_nothing(cells.len());
+        let cells = Circle::new(&mut cells[..counts.cells]);
+        Ring { cells, counts }
     }
 
     // How many codeblocks the oldest finished candidate has. Refused where none waits.
-    #[tactic(auto, using(crate::proofs::Turns::oldest_counted, crate::proofs::Turns::few_wait))]
-    fn oldest(&self) -> Result<usize, Refusal>
-        ensures { MatchResult result (Oldest self.now.waiting self.now.used (used_cells self.now)) (NoneWaits (finished_in self.now)) }
+    #[tactic(auto, using(crate::proofs::Turns::oldest_counted))]
+    fn oldest(&self) -> Result<u16, Refusal>
+        ensures { MatchResult result (Oldest self.now.counts (in_turn self.now)) (NoneWaits (finished_in self.now)) }
     {
-        if self.waiting == 0 {
+        if self.counts.waiting == 0 {
             return Err(Refusal::NoCandidate);
         }
-        Ok(self.cells.get(0).unwrap().codeblocks as usize)
+        Ok(self.cells.get(0).unwrap().codeblocks)
     }
 
     // The octet at a place of the oldest finished candidate.
@@ -83,13 +53,13 @@ impl<'a> Ring<'a> {
         requires { place < length (oldest_of (finished_in self.now)) }
         ensures { result ≡ slice_index (oldest_of (finished_in self.now)) place }
     {
-        self.cells.get(place / 7).unwrap().octets[place % 7]
+        self.cells.get(place / INFORMATION_OCTETS).unwrap().octets[place % INFORMATION_OCTETS]
     }
 
     // Reads a stretch of the oldest finished candidate, from a place on, into memory that is as long.
-    #[tactic(auto, using(crate::proofs::Turns::oldest_short, crate::proofs::Oldest::read_more, crate::proofs::Turns::stretch_answered, crate::proofs::Turns::all_read))]
+    #[tactic(auto, using(crate::proofs::Turns::oldest_short, cells::proofs::Oldest::read_more, crate::proofs::Turns::stretch_answered, crate::proofs::Turns::all_read))]
     fn read(&self, place: usize, memory: &mut [u8])
-        requires { (0 < self.now.waiting) × (length memory.old ≤ length (oldest_of (finished_in self.now)) - place) }
+        requires { (0 < self.now.counts.waiting) × (length memory.old ≤ length (oldest_of (finished_in self.now)) - place) }
         ensures answer { stretch_answer (finished_in self.now) place memory.old ≡ Ok tt }
         ensures memory { memory.new ≡ after_stretch (finished_in self.now) place memory.old }
     {
@@ -113,79 +83,61 @@ impl<'a> Hold for Ring<'a> {
     ghost sound = { λ ring. sound_ring ring };
 
     fn open(&mut self) -> Result<(), Refusal> {
-        if self.unfinished.is_some() {
-            return Err(Refusal::CandidateOpen);
-        }
-        self.unfinished = Some(0);
-        Ok(())
+        self.counts.open()
     }
 
-    #[tactic(auto, using(crate::proofs::Writes::same_length, crate::proofs::Writes::add_answered, crate::proofs::Writes::stored))]
     fn add(&mut self, octets: [u8; 7]) -> Result<(), Refusal> {
-        let codeblocks = self.unfinished_codeblocks()?;
-        if self.held() == self.cells.len() {
-            return Err(Refusal::NoFreeSpace);
-        }
+        let turn = self.counts.held();
+        self.counts.add()?;
         let cell = Cell {
             octets,
             codeblocks: 0,
         };
-        self.cells.set(self.used + codeblocks, cell);
-        self.unfinished = Some(codeblocks + 1);
+        self.cells.set(turn, cell);
         Ok(())
     }
 
-    #[tactic(auto, using(crate::proofs::Writes::same_length, crate::proofs::Writes::counted, crate::proofs::Writes::counted_whole, crate::proofs::Writes::first_open))]
     fn finish(&mut self) -> Result<(), Refusal> {
-        let codeblocks = self.unfinished_codeblocks()?;
-        if codeblocks == 0 {
-            return Err(Refusal::CandidateEmpty);
-        }
-        let mut cell = *self.cells.get(self.used).unwrap();
-        cell.codeblocks = codeblocks as u16;
-        self.cells.set(self.used, cell);
-        self.used += codeblocks;
-        self.waiting += 1;
-        self.unfinished = None;
+        let turn = self.counts.used;
+        let codeblocks = self.counts.finish()?;
+        let mut cell = *self.cells.get(turn).unwrap();
+        cell.codeblocks = codeblocks;
+        self.cells.set(turn, cell);
         Ok(())
     }
 
     fn abandon(&mut self) -> Result<(), Refusal> {
-        self.unfinished.take().ok_or(Refusal::NoCandidateOpen)?;
-        Ok(())
+        self.counts.abandon()
     }
 
     #[tactic(auto, using(crate::proofs::Turns::finished_behind, crate::proofs::Turns::whole_behind, crate::proofs::Turns::open_behind, crate::proofs::Turns::as_many))]
     fn release(&mut self) -> Result<(), Refusal> {
-        let codeblocks = self.oldest()?;
+        let codeblocks = self.oldest()? as usize;
         self.cells.advance(codeblocks);
-        self.used -= codeblocks;
-        self.waiting -= 1;
+        self.counts.waiting -= 1;
+        self.counts.used -= codeblocks;
         Ok(())
     }
 
     fn free_space(&self) -> usize {
-        self.cells.len() - self.held()
+        self.counts.free_space()
     }
 
     fn open_codeblocks(&self) -> usize {
-        self.held() - self.used
+        self.counts.open_codeblocks()
     }
 
     #[tactic(auto, using(crate::proofs::Turns::length_finished))]
     fn finished_count(&self) -> usize {
-        self.waiting
+        self.counts.waiting
     }
 
     fn oldest_length(&self) -> Result<usize, Refusal> {
-        Ok(7 * self.oldest()?)
+        Ok(INFORMATION_OCTETS * self.oldest()? as usize)
     }
 
     fn read_oldest(&self, place: usize, memory: &mut [u8]) -> Result<(), Refusal> {
-        let codeblocks = self.oldest()?;
-        if memory.len() > (7 * codeblocks).saturating_sub(place) {
-            return Err(Refusal::PastCandidateEnd);
-        }
+        stretch_within(self.oldest_length()?, place, memory.len())?;
         self.read(place, memory);
         Ok(())
     }
