@@ -1,5 +1,5 @@
 -- The codeblock stands in the first free cell. Assumes nothing.
-use Rattle.std.proofs.Common.{rules, ◌≡◌, ℕ, length, refl, ap}
+use Rattle.std.proofs.Common.{rules, refl}
 use Rattle.cells.specs.declared.cell.Cell.{Cell as Room}
 use Rattle.chain.specs.Links.{cell_at, node_of}
 use Rattle.chain.proofs.Writes.{free_below, filled_counted, filled_kept, place_free, filled_behind, others_filled}
