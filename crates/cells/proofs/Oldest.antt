@@ -63,7 +63,7 @@ module _ (counts : Counts) (cells : List Cell) (counted : Counted counts cells) 
     stretch_answered place memory h = stretch_inside finished place memory waits h
 
     pub oldest_short : length (oldest_of finished) ≤ 7 * 65535
-    oldest_short = omega (arith, length_first, first.within, length_used counts cells counted, counts.within, counts.most)
+    oldest_short = omega (arith, length_first, first.within, length_used counts cells counted, counted.within, counted.most)
 
     -- what is read at last is the stretch
     pub all_read : (place i : ℕ) (memory later : List ℕ) → length memory ≤ length (oldest_of finished) - place → length later ≡ length memory → length memory ≤ i →
@@ -90,9 +90,9 @@ module _ (counts : Counts) (cells : List Cell) (counted : Counted counts cells) 
         ∙ sym (ap (λ fs. get_or (oldest_of fs) place 0) oldest.candidates ∙ get_or_octets_of (take c used_cells) place blank (omega (arith, length_first some_waits, length-take-le c used_cells oldest.within)))
 
 -- the first cell has the count of the oldest candidate
-pub first_counted : (counts : Counts) (cells : List Cell) → 0 < counts.waiting → (get_or cells 0 blank).codeblocks ≡ first_count (take counts.used cells)
-first_counted counts cells some =
-    ap (λ x. x.codeblocks) (sym (get_or-take counts.used cells 0 blank (omega (arith, counts.few)))) ∙ sym (first_count_get_or (take counts.used cells))
+pub first_counted : (counts : Counts) (cells : List Cell) → counts.waiting ≤ counts.used → 0 < counts.waiting → (get_or cells 0 blank).codeblocks ≡ first_count (take counts.used cells)
+first_counted counts cells few some =
+    ap (λ x. x.codeblocks) (sym (get_or-take counts.used cells 0 blank (omega (arith, few)))) ∙ sym (first_count_get_or (take counts.used cells))
   where
     first_count_get_or : (cells : List Cell) → first_count cells ≡ (get_or cells 0 blank).codeblocks
     first_count_get_or [] = refl

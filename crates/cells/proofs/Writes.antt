@@ -12,7 +12,7 @@ use Rattle.cells.specs.declared.cell.Cell.{Cell}
 use Rattle.cells.specs.declared.counts.Counts.{Counts}
 use Rattle.cells.specs.Cells.{octets_in, octets_of, first_count, grouped, parted, added, unfinished_in}
 use Rattle.cells.specs.Sound.{length_octets_take}
-use Rattle.cells.specs.Held.{held_by, finished_of, opened_of, Counted, free_cells, SameFinished, Adds, AddsNone, Stored, Finishes, FinishesNone, Noted, blank}
+use Rattle.cells.specs.Held.{stopped, held_by, finished_of, opened_of, Counted, free_cells, SameFinished, Adds, AddsNone, Stored, Finishes, FinishesNone, Noted, blank}
 use Rattle.cells.proofs.Groups.{octets_in_seven, Behind, behind}
 
 -- what finishing makes of a candidate that is not empty
@@ -33,15 +33,19 @@ same_octets zero x y cells e = refl
 same_octets (suc n) x y cells e = ap (λ l. l ++ octets_of (take n cells)) e
 
 -- the same counts of the same cells, but for the open candidate
-kept : (old new : Counts) (cells now : List Cell) → SameFinished old new → Counted old cells → length now ≡ length cells → take old.used now ≡ take old.used cells → Counted new now
-kept old new cells now same counted long front =
+kept : (old new : Counts) (cells now : List Cell) → SameFinished old new → held_by new ≤ new.cells → Counted old cells → length now ≡ length cells →
+    take old.used now ≡ take old.used cells → Counted new now
+kept old new cells now same within counted long front =
     record {
       as_many = long ∙ counted.as_many ∙ sym same.cells;
+      most = omega (arith, counted.most, same.cells);
+      within = within;
+      few = omega (arith, counted.few, same.used, same.waiting);
       whole = ap₂ (λ w u. parted w (take u now)) same.waiting same.used ∙ ap (parted old.waiting) front ∙ counted.whole;
     }
 
-pub still_counted : (old new : Counts) (cells : List Cell) → SameFinished old new → Counted old cells → Counted new cells
-still_counted old new cells same counted = kept old new cells cells same counted refl refl
+pub still_counted : (old new : Counts) (cells : List Cell) → SameFinished old new → added new.unfinished ≤ added old.unfinished → Counted old cells → Counted new cells
+still_counted old new cells same fewer counted = kept old new cells cells same (omega (arith, counted.within, same.used, same.cells)) counted refl refl
 
 module _ (old new : Counts) (same : SameFinished old new) (codeblocks : ℕ) (is_open : old.unfinished ≡ Some codeblocks)
     (room : old.used + codeblocks < old.cells) (more : new.unfinished ≡ Some (codeblocks + 1)) where
@@ -85,7 +89,7 @@ module _ (old new : Counts) (same : SameFinished old new) (codeblocks : ℕ) (is
       stored : Stored old new cells now cell.octets
       stored =
           record {
-            counted = kept old new cells now same counted (length-set cells (held_by old) cell) front;
+            counted = kept old new cells now same (omega (arith, room, same.used, same.cells, ap added more)) counted (length-set cells (held_by old) cell) front;
             finished = ap₂ (λ w u. grouped w (take u now)) same.waiting same.used ∙ ap (grouped old.waiting) front;
             opened = opened;
           }
@@ -116,7 +120,7 @@ adds_unopened old none =
           ∙ sym (ap (λ u. unfinished_in u (drop old.used cells)) none);
     }
 
-pub adds_full : (old : Counts) (codeblocks : ℕ) → old.unfinished ≡ Some codeblocks → old.used + codeblocks ≡ old.cells → AddsNone old old NoFreeSpace
+pub adds_full : (old : Counts) (codeblocks : ℕ) → old.unfinished ≡ Some codeblocks → old.cells ≤ old.used + codeblocks → AddsNone old old NoFreeSpace
 adds_full old codeblocks begun full =
     record {
       same = refl;
@@ -133,12 +137,18 @@ adds_full old codeblocks begun full =
         ap (λ o. eqb (free_space old.cells (finished_of old cells) o) 0) (sym (opened_is cells))
         ∙ eq-eqb (free_space old.cells (finished_of old cells) (opened_of old cells)) 0 (omega (arith, free_cells old cells counted, ap added begun))
 
-module _ (old new : Counts) (codeblocks : ℕ) (cells_same : new.cells ≡ old.cells) (used_more : new.used ≡ old.used + codeblocks) (one_more : new.waiting ≡ old.waiting + 1)
-    (closed : new.unfinished ≡ None) (is_open : old.unfinished ≡ Some codeblocks) (some : 0 < codeblocks) where
-  within : old.used + codeblocks ≤ old.cells
-  within = omega (arith, old.within, ap added is_open)
-
+module _ (old new : Counts) (codeblocks : ℕ) (cells_same : new.cells ≡ old.cells) (used_stopped : new.used ≡ stopped (old.used + codeblocks))
+    (waiting_stopped : new.waiting ≡ stopped (old.waiting + 1)) (closed : new.unfinished ≡ None) (is_open : old.unfinished ≡ Some codeblocks) (some : 0 < codeblocks) where
   module _ (cells : List Cell) (counted : Counted old cells) where
+    within : old.used + codeblocks ≤ old.cells
+    within = omega (arith, counted.within, ap added is_open)
+
+    used_more : new.used ≡ old.used + codeblocks
+    used_more = omega (arith, used_stopped, within, counted.most)
+
+    one_more : new.waiting ≡ old.waiting + 1
+    one_more = omega (arith, waiting_stopped, within, counted.few, counted.most)
+
     abbrev candidate : Candidate
     candidate = octets_of (take codeblocks (drop old.used cells))
 
@@ -186,6 +196,9 @@ module _ (old new : Counts) (codeblocks : ℕ) (cells_same : new.cells ≡ old.c
           record {
             counted = record {
               as_many = length-set cells old.used cell ∙ counted.as_many ∙ sym cells_same;
+              most = omega (arith, counted.most, cells_same);
+              within = omega (arith, within, used_more, cells_same, ap added closed);
+              few = omega (arith, counted.few, used_more, one_more, some);
               whole = ap₂ parted more_waiting all_cells ∙ last_behind.whole;
             };
             finished =
@@ -198,12 +211,12 @@ module _ (old new : Counts) (codeblocks : ℕ) (cells_same : new.cells ≡ old.c
   finishes =
       record {
         cells = cells_same;
-        used = used_more;
-        waiting = one_more;
+        used = used_stopped;
+        waiting = waiting_stopped;
         unfinished = closed;
         begun = is_open;
         some = some;
-        first = omega (arith, within);
+        first = λ cells counted. omega (arith, within cells counted);
         answer = finish_answered_so;
         noted = λ cells cell counted same noted. noted_so cells counted cell same noted;
       }

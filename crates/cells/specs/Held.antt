@@ -1,5 +1,5 @@
 -- What cells hold by the counts, and what the calls of a hold find there and leave. Assumes nothing.
-use Rattle.std.specs.Prelude.{◌≡◌, ℕ, ◌+◌, ◌-◌, ◌*◌, ◌<◌, ◌≤◌, true, List, [], ◌∷◌, length, take, drop, Some, None, Ok, Err, Option, slice_index_or, slice_set}
+use Rattle.std.specs.Prelude.{◌≡◌, ℕ, ◌+◌, ◌-◌, ◌*◌, ◌<◌, ◌≤◌, min, true, List, [], ◌∷◌, length, take, drop, Some, None, Ok, Err, Option, slice_index_or, slice_set}
 use Rattle.std.proofs.Common.{sym, ◌∙◌, arith}
 use Rattle.std.proofs.lemmas.List.{length-take-le, length-drop}
 use Rattle.refusals.specs.declared.Refusal.{Refusal}
@@ -10,6 +10,10 @@ use Rattle.cells.specs.declared.cell.Cell.{Cell}
 use Rattle.cells.specs.declared.counts.Counts.{Counts}
 use Rattle.cells.specs.Cells.{first_count, grouped, parted, added, unfinished_in}
 use Rattle.cells.specs.Sound.{finished_codeblocks_grouped, finished_whole_grouped, open_codeblocks_unfinished, open_whole_unfinished}
+
+-- a count in the code stops at what its word holds, which no count of a hold comes near
+abbrev pub stopped : ℕ → ℕ
+stopped n = min 18446744073709551615 n
 
 -- cells that are held
 abbrev pub held_by : Counts → ℕ
@@ -25,17 +29,20 @@ opened_of counts cells = unfinished_in counts.unfinished (drop counts.used cells
 -- cells that are counted so
 pub record Counted (counts : Counts) (cells : List Cell) : Type 0 where
   pub as_many : length cells ≡ counts.cells
+  pub most : counts.cells ≤ 65535
+  pub within : held_by counts ≤ counts.cells
+  pub few : counts.waiting ≤ counts.used
   pub whole : parted counts.waiting (take counts.used cells) ≡ true
 
 module _ (counts : Counts) (cells : List Cell) (counted : Counted counts cells) where
   pub length_used : length (take counts.used cells) ≡ counts.used
-  length_used = length-take-le counts.used cells (omega (arith, counts.within, counted.as_many))
+  length_used = length-take-le counts.used cells (omega (arith, counted.within, counted.as_many))
 
   pub finished_is_used : finished_codeblocks (finished_of counts cells) ≡ counts.used
   finished_is_used = finished_codeblocks_grouped counts.waiting (take counts.used cells) counted.whole ∙ length_used
 
   fits : added counts.unfinished ≤ length (drop counts.used cells)
-  fits = omega (arith, length-drop counts.used cells, counts.within, counted.as_many)
+  fits = omega (arith, length-drop counts.used cells, counted.within, counted.as_many)
 
   pub open_is_added : added counts.unfinished ≡ open_codeblocks (opened_of counts cells)
   open_is_added = sym (open_codeblocks_unfinished counts.unfinished (drop counts.used cells) fits)
@@ -46,7 +53,7 @@ module _ (counts : Counts) (cells : List Cell) (counted : Counted counts cells) 
   pub sound : Sound counts.cells (finished_of counts cells) (opened_of counts cells)
   sound =
       record {
-        within = omega (arith, finished_is_used, open_is_added, counts.within);
+        within = omega (arith, finished_is_used, open_is_added, counted.within);
         finished_whole = finished_whole_grouped counts.waiting (take counts.used cells) counted.whole;
         open_whole = open_whole_unfinished counts.unfinished (drop counts.used cells) fits;
       }
@@ -87,12 +94,12 @@ blank = record { octets = []; codeblocks = 0 }
 
 pub record Finishes (old new : Counts) (codeblocks : ℕ) : Type 0 where
   pub cells : new.cells ≡ old.cells
-  pub used : new.used ≡ old.used + codeblocks
-  pub waiting : new.waiting ≡ old.waiting + 1
+  pub used : new.used ≡ stopped (old.used + codeblocks)
+  pub waiting : new.waiting ≡ stopped (old.waiting + 1)
   pub unfinished : new.unfinished ≡ None
   pub begun : old.unfinished ≡ Some codeblocks
   pub some : 0 < codeblocks
-  pub first : old.used < old.cells
+  pub first : (cells : List Cell) → Counted old cells → old.used < old.cells
   pub answer : (cells : List Cell) → Counted old cells → finish_answer (opened_of old cells) ≡ Ok tt
   pub noted : (cells : List Cell) (cell : Cell) → Counted old cells → cell.octets ≡ (slice_index_or cells old.used blank).octets → cell.codeblocks ≡ codeblocks →
       Noted old new cells (slice_set cells old.used cell)

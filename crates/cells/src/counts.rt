@@ -1,6 +1,3 @@
-ghost use Rattle.std.specs.Prelude.{◌+◌, ◌≤◌};
-ghost use Rattle.cells.specs.Cells.{added};
-
 /// How much is held in cells that are read one behind the other: first the finished candidates, then the open one.
 #[derive(Clone, Copy)]
 pub struct Counts {
@@ -12,7 +9,4 @@ pub struct Counts {
     pub waiting: usize,
     /// How many codeblocks the open candidate has, if one is open.
     pub unfinished: Option<usize>,
-    ghost most: { cells ≤ 65535 },
-    ghost within: { used + added unfinished ≤ cells },
-    ghost few: { waiting ≤ used },
 }

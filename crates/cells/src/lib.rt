@@ -7,7 +7,7 @@ ghost use Rattle.refusals.specs.declared.Refusal.TheVariants.{PastCandidateEnd};
 ghost use Rattle.hold.specs.Candidates.{free_space, open_codeblocks, open_answer, after_open, abandon_answer};
 ghost use Rattle.cells.specs.declared.cell.Cell.{Cell};
 ghost use Rattle.cells.specs.Cells.{added};
-ghost use Rattle.cells.specs.Held.{held_by, finished_of, opened_of, Counted, SameFinished, Adds, AddsNone, Finishes, FinishesNone};
+ghost use Rattle.cells.specs.Held.{stopped, held_by, finished_of, opened_of, Counted, SameFinished, Adds, AddsNone, Finishes, FinishesNone};
 
 use refusals::Refusal;
 
@@ -38,9 +38,9 @@ impl Counts {
 
     /// How many cells are held, by finished candidates or the open one.
     pub fn held(&self) -> usize
-        ensures { result ≡ held_by self.now }
+        ensures { result ≡ stopped (held_by self.now) }
     {
-        self.used + self.unfinished.unwrap_or(0)
+        self.used.saturating_add(self.unfinished.unwrap_or(0))
     }
 
     /// How many cells are free.
@@ -49,7 +49,7 @@ impl Counts {
         ensures cells { result ≡ self.now.cells - held_by self.now }
         ensures space { (cells : List Cell) → Counted self.now cells → result ≡ free_space self.now.cells (finished_of self.now cells) (opened_of self.now cells) }
     {
-        self.cells - self.held()
+        self.cells.saturating_sub(self.held())
     }
 
     /// How many codeblocks the open candidate has: 0 where none is open.
@@ -84,7 +84,7 @@ impl Counts {
         let Some(codeblocks) = self.unfinished else {
             return Err(Refusal::NoCandidateOpen);
         };
-        if self.held() == self.cells {
+        if self.free_space() == 0 {
             return Err(Refusal::NoFreeSpace);
         }
         self.unfinished = Some(codeblocks + 1);
@@ -94,7 +94,7 @@ impl Counts {
     /// Counts the open candidate among the finished ones, and gives how many codeblocks it has. Refused with
     /// 11 where none is open, and with 13 where it is empty.
     #[tactic(auto, using(crate::proofs::Writes::finishes, crate::proofs::Writes::finishes_unopened, crate::proofs::Writes::finishes_empty))]
-    pub fn finish(&mut self) -> Result<u16, Refusal>
+    pub fn finish(&mut self) -> Result<usize, Refusal>
         ensures { MatchResult result (Finishes self.old self.new) (FinishesNone self.old self.new) }
     {
         let Some(codeblocks) = self.unfinished else {
@@ -103,10 +103,10 @@ impl Counts {
         if codeblocks == 0 {
             return Err(Refusal::CandidateEmpty);
         }
-        self.used += codeblocks;
-        self.waiting += 1;
+        self.used = self.used.saturating_add(codeblocks);
+        self.waiting = self.waiting.saturating_add(1);
         self.unfinished = None;
-        Ok(codeblocks as u16)
+        Ok(codeblocks)
     }
 
     /// Counts the open candidate no more. Refused with 11 where none is open.

@@ -48,7 +48,7 @@ module _ (chain : Chain) where
   as_many = sym (length_in_turn cells chain.first) ∙ chain.counted.as_many
 
   pub held_fits : held_by chain.counts ≤ length cells
-  held_fits = omega (arith, as_many, chain.counts.within)
+  held_fits = omega (arith, as_many, chain.counted.within)
 
   pub used_turn : take chain.counts.used turn ≡ rooms used_nodes
   used_turn = take_in_turn cells chain.first chain.counts.used (omega (arith, held_fits))
@@ -64,7 +64,7 @@ module _ (chain : Chain) where
     oldest_ends = ends_of chain.counts.waiting used_nodes some chain.chained.ends
 
     some_cell : 0 < length cells
-    some_cell = omega (arith, chain.counts.few, held_fits)
+    some_cell = omega (arith, chain.counted.few, held_fits)
 
     pub first_below : chain.first < length cells
     first_below = cell_below 0 some_cell
@@ -75,12 +75,12 @@ module _ (chain : Chain) where
     pub oldest_counted : Oldest chain.counts turn (cell_at cells chain.first).room.codeblocks
     oldest_counted =
         oldest_is (cell_at cells chain.first).room.codeblocks
-        (ap (λ room. room.codeblocks) (sym (room_at cells chain.first 0 some_cell)) ∙ first_counted chain.counts turn some)
+        (ap (λ room. room.codeblocks) (sym (room_at cells chain.first 0 some_cell)) ∙ first_counted chain.counts turn chain.counted.few some)
 
     -- the first cell has the place of the oldest candidate's last cell
     pub end_cell : (n : ℕ) → Oldest chain.counts turn n → (cell_at cells chain.first).last ≡ after (n - 1) cells chain.first
     end_cell n oldest =
-        sym (first_last chain.counts.used cells chain.first (omega (arith, chain.counts.few)))
+        sym (first_last chain.counts.used cells chain.first (omega (arith, chain.counted.few)))
         ∙ oldest_ends.first ∙ ap (λ k. place_in used_nodes (k - 1)) (sym (oldest.counted ∙ ap first_count used_turn))
         ∙ ap (λ node. node.place) (get_nodes cells chain.counts.used (n - 1) chain.first no_node (omega (arith, oldest.not_empty, oldest.within)))
 

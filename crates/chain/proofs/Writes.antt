@@ -208,6 +208,12 @@ module _ (chain : Chain) (new : Counts) (codeblocks : ℕ) (finishes : Finishes 
   held_is : held_by chain.counts ≡ used + codeblocks
   held_is = omega (arith, ap added finishes.begun)
 
+  used_more : new.used ≡ used + codeblocks
+  used_more = omega (arith, finishes.used, held_is, chain.counted.within, chain.counted.most)
+
+  one_more : new.waiting ≡ chain.counts.waiting + 1
+  one_more = omega (arith, finishes.waiting, chain.counted.few, chain.counted.within, chain.counted.most)
+
   last_after : chain.last_held ≡ after (used + codeblocks - 1) old_cells begin
   last_after = chain.chained.holds (omega (arith, held_is, finishes.some)) ∙ ap (λ n. after (n - 1) old_cells begin) held_is
 
@@ -252,7 +258,7 @@ module _ (chain : Chain) (new : Counts) (codeblocks : ℕ) (finishes : Finishes 
 
   all_nodes : nodes new.used counted begin ≡ nodes used old_cells begin ++ open_nodes
   all_nodes =
-      ap (λ n. nodes n counted begin) finishes.used ∙ nodes_add counted used codeblocks begin
+      ap (λ n. nodes n counted begin) used_more ∙ nodes_add counted used codeblocks begin
       ∙ ap₂ (λ l p. l ++ nodes codeblocks counted p) counted_used (counted_after used begin ∙ sym chain.chained.opens)
 
   whole : parted chain.counts.waiting (rooms (nodes used old_cells begin)) ≡ true
@@ -261,17 +267,17 @@ module _ (chain : Chain) (new : Counts) (codeblocks : ℕ) (finishes : Finishes 
   finish_keeps : Chained counted begin chain.first_free chain.first_free chain.last_held chain.last_held new.used new.waiting (added new.unfinished)
   finish_keeps =
       let none : added new.unfinished ≡ 0 = ap added finishes.unfinished in
-      let no_more : used + codeblocks ≡ new.used + added new.unfinished = omega (arith, none, finishes.used) in
+      let no_more : used + codeblocks ≡ new.used + added new.unfinished = omega (arith, none, used_more) in
       let free = free_after ∙ sym (counted_after (used + codeblocks) begin) in
       let end = last_after ∙ sym (counted_after (used + codeblocks - 1) begin) in
       record {
         each_once = once_later chain used its_first chain.chained.opens opens_below noted_cell refl;
         ends =
-            ap₂ last_cells_noted (finishes.waiting ∙ add-one chain.counts.waiting) all_nodes
+            ap₂ last_cells_noted (one_more ∙ add-one chain.counts.waiting) all_nodes
             ∙ ended_behind open_nodes (omega (arith, first_noted, finishes.some)) ends_noted chain.counts.waiting (nodes used old_cells begin) whole chain.chained.ends;
-        opens = free ∙ ap (λ n. after n counted begin) (sym finishes.used);
+        opens = free ∙ ap (λ n. after n counted begin) (sym used_more);
         frees = free ∙ ap (λ n. after n counted begin) no_more;
-        finishes = λ h. end ∙ ap (λ n. after (n - 1) counted begin) (sym finishes.used);
+        finishes = λ h. end ∙ ap (λ n. after (n - 1) counted begin) (sym used_more);
         holds = λ h. end ∙ ap (λ n. after (n - 1) counted begin) no_more;
       }
 

@@ -221,7 +221,12 @@ impl<'a> Hold for Chain<'a> {
     fn finish(&mut self) -> Result<(), Refusal> {
         let mut counts = self.counts;
         let codeblocks = counts.finish()?;
-        note(self.cells, self.first_open, codeblocks, self.last_held);
+        note(
+            self.cells,
+            self.first_open,
+            codeblocks as u16,
+            self.last_held,
+        );
         self.last_finished = self.last_held;
         self.first_open = self.first_free;
         self.counts = counts;

@@ -93,8 +93,8 @@ module _ (settings : Settings) (showing : Showing) (K : ℕ) (F : List Candidate
           let shown = shown_from showing (length candidate) octets in
           let longer = length-append candidate shown ∙ ap (λ n. length candidate + n) (length_shown_from showing (length candidate) octets ∙ seven) in
           let after = subst (λ o. IsOpen o × (open_codeblocks o ≡ suc n))
-              (ap (λ full. cond full (Some candidate) (Some (candidate ++ shown))) (sym f))
-              (tt, seven_more (length (candidate ++ shown)) (length candidate) longer ∙ ap suc e) in
+          (ap (λ full. cond full (Some candidate) (Some (candidate ++ shown))) (sym f))
+          (tt, seven_more (length (candidate ++ shown)) (length candidate) longer ∙ ap suc e) in
           record {
             is_open = after.0;
             held = after.1;

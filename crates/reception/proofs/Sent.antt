@@ -92,8 +92,8 @@ module _ (settings : Settings) (showing : Showing) where
       let blocks = blocks_come settings showing cltu.blocks octets p.front h 0 0 [] p.brings within.blocks_right octet within.blocks_all (omega (arith, within.blocks_few)) space empty in
       let long = length_shown_from showing 0 octets in
       let rest = tail_and_no_more cltu.tail p.back blocks.hold blocks.codeblocks (length cltu.blocks - 1) blocks.corrections (shown_from showing 0 octets) p.stays p.rest within.tail_long
-          (tail_is_rejected (value cltu.tail) (value_below cltu.tail 64 within.tail_long) settings.mode within.tail_right) blocks.opened
-          (omega (arith, blocks.counted, within.blocks_some)) (omega (arith, long, within.blocks_all, within.blocks_some)) in
+      (tail_is_rejected (value cltu.tail) (value_below cltu.tail 64 within.tail_long) settings.mode within.tail_right) blocks.opened
+      (omega (arith, blocks.counted, within.blocks_some)) (omega (arith, long, within.blocks_all, within.blocks_some)) in
       record { hold = rest.hold; goes = goes_then settings showing {fs = p.front} {gs = p.back} p.whole blocks.goes rest.goes; opened = rest.opened }
 
   begins_idle : (b : Bool) (count window : ℕ) → NothingButIdle b count window → Follows b 0 (min count (16 - 0)) 0 window

@@ -35,7 +35,7 @@ module _ (ring : Ring) where
   pub oldest_counted : (cell : Cell) → 0 < ring.counts.waiting → slice_get (in_turn ring) 0 ≡ Some cell → Oldest ring.counts (in_turn ring) cell.codeblocks
   oldest_counted cell some is =
       is_oldest ring.counts (in_turn ring) ring.counted some cell.codeblocks
-      (ap (λ x. x.codeblocks) (sym (get_or_from_slice_get (in_turn ring) 0 cell blank is)) ∙ first_counted ring.counts (in_turn ring) some)
+      (ap (λ x. x.codeblocks) (sym (get_or_from_slice_get (in_turn ring) 0 cell blank is)) ∙ first_counted ring.counts (in_turn ring) ring.counted.few some)
 
   pub octet_value : (place : ℕ) (cell : Cell) → place < length (oldest_of (finished_in ring)) → slice_get (in_turn ring) (place / 7) ≡ Some cell →
       get_or cell.octets (place % 7) 0 ≡ get_or (oldest_of (finished_in ring)) place 0
@@ -44,7 +44,7 @@ module _ (ring : Ring) where
       ∙ octet_at ring.counts (in_turn ring) ring.counted place h
 
   pub turn_below : (place : ℕ) → place < length (oldest_of (finished_in ring)) → place / 7 < length (in_turn ring)
-  turn_below place h = omega (arith, turn_used ring.counts (in_turn ring) ring.counted place h, ring.counts.within, ring.counted.as_many)
+  turn_below place h = omega (arith, turn_used ring.counts (in_turn ring) ring.counted place h, ring.counted.within, ring.counted.as_many)
 
   -- behind the oldest candidate's last cell the others begin
   module _ (n : ℕ) (oldest : Oldest ring.counts (in_turn ring) n) where
@@ -53,7 +53,7 @@ module _ (ring : Ring) where
 
     behind : take (held_by ring.counts - n) now ≡ drop n (take (held_by ring.counts) (in_turn ring))
     behind =
-        let few : held_by ring.counts - n ≤ length (drop n (in_turn ring)) = omega (arith, length-drop n (in_turn ring), ring.counts.within, ring.counted.as_many) in
+        let few : held_by ring.counts - n ≤ length (drop n (in_turn ring)) = omega (arith, length-drop n (in_turn ring), ring.counted.within, ring.counted.as_many) in
         let back : n + (held_by ring.counts - n) ≡ held_by ring.counts = omega (arith, oldest.within) in
         take-append-le (held_by ring.counts - n) (drop n (in_turn ring)) (take n (in_turn ring)) few
         ∙ sym (drop-take n (held_by ring.counts - n) (in_turn ring)) ∙ ap (λ k. drop n (take k (in_turn ring))) back

@@ -101,7 +101,7 @@ impl<'a> Hold for Ring<'a> {
         let turn = self.counts.used;
         let codeblocks = self.counts.finish()?;
         let mut cell = *self.cells.get(turn).unwrap();
-        cell.codeblocks = codeblocks;
+        cell.codeblocks = codeblocks as u16;
         self.cells.set(turn, cell);
         Ok(())
     }
