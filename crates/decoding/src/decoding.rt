@@ -1,4 +1,7 @@
-ghost use Rattle.std.specs.Prelude.{◌^◌, ◌<◌, ◌≤◌};
+ghost use Rattle.std.specs.Prelude.{◌≡◌, ◌^◌, ◌<◌, ◌≤◌};
+ghost use Rattle.reception.specs.Decoding.{abandoning, report, ends, closing, counting_in, decoded};
+ghost use Rattle.decoding.specs.Meaning.{rules_of, held_in};
+ghost use Rattle.decoding.specs.Counts.{counted_as, CountsFew};
 
 use crate::settings::Settings;
 use bch::Accepted;
@@ -25,11 +28,10 @@ pub struct Decoding {
 }
 
 impl Decoding {
-    ghost use Rattle.std.specs.Prelude.{◌≡◌, ◌+◌, ◌*◌};
+    ghost use Rattle.std.specs.Prelude.{◌+◌, ◌*◌};
     ghost use Rattle.reception.specs.Symbols.{bit_value};
-    ghost use Rattle.reception.specs.Decoding.{opening, abandoning, begun, report, ends, closing, counting_in, decoded, read_symbol};
+    ghost use Rattle.reception.specs.Decoding.{opening, begun, read_symbol};
     ghost use Rattle.reception.specs.declared.Reason.TheVariants.{Down as down};
-    ghost use Rattle.decoding.specs.Meaning.{rules_of, held_in};
     ghost use Rattle.decoding.specs.Outcomes.{reading_in, decoded_as};
 
     /// Begins a candidate in the hold, behind a start sequence: nothing is read yet.
@@ -66,7 +68,19 @@ impl Decoding {
                 corrections: self.corrections,
             });
         }
-        self.codeblock(hold, settings, word)
+        let (codeblocks, corrections) = decode(
+            hold,
+            settings,
+            self.codeblocks,
+            self.corrections,
+            word,
+        )?;
+        ControlFlow::Continue(Decoding {
+            count: 0,
+            word: 0,
+            codeblocks,
+            corrections,
+        })
     }
 
     /// The carrier went down: the candidate is abandoned.
@@ -74,7 +88,7 @@ impl Decoding {
         ensures report { result ≡ report down (reading_in self).codeblocks (reading_in self).corrections }
         ensures held { held_in H.Hold hold.new ≡ abandoning (held_in H.Hold hold.old) }
     {
-        self.abandon(hold, Reason::Down)
+        abandon(hold, Reason::Down, self.codeblocks, self.corrections)
     }
 
     // The symbols of the codeblock with one more.
@@ -83,78 +97,79 @@ impl Decoding {
     {
         (self.word << 1) | u64::from(bit)
     }
+}
 
-    // What is told of the candidate when it ends.
-    fn report(self, reason: Reason) -> Report
-        ensures { result ≡ report reason self.codeblocks self.corrections }
-    {
-        Report {
-            reason,
-            codeblocks: usize::from(self.codeblocks),
-            corrections: usize::from(self.corrections),
-        }
+// What is told of a candidate when it ends.
+fn report(reason: Reason, codeblocks: u8, corrections: u8) -> Report
+    ensures { result ≡ report reason codeblocks corrections }
+{
+    Report {
+        reason,
+        codeblocks: usize::from(codeblocks),
+        corrections: usize::from(corrections),
     }
+}
 
-    // The candidate is abandoned, for this reason. Refused where none is open, and then there is none to abandon.
-    fn abandon<H: Hold>(self, hold: &mut H, reason: Reason) -> Report
-        ensures report { result ≡ report reason self.codeblocks self.corrections }
-        ensures held { held_in H.Hold hold.new ≡ abandoning (held_in H.Hold hold.old) }
-    {
-        let _ = hold.abandon();
-        self.report(reason)
-    }
+// The candidate is abandoned, for this reason. Refused where none is open, and then there is none to abandon.
+fn abandon<H: Hold>(hold: &mut H, reason: Reason, codeblocks: u8, corrections: u8) -> Report
+    ensures report { result ≡ report reason codeblocks corrections }
+    ensures held { held_in H.Hold hold.new ≡ abandoning (held_in H.Hold hold.old) }
+{
+    let _ = hold.abandon();
+    report(reason, codeblocks, corrections)
+}
 
-    // Judges 64 symbols.
-    // Not inlined, since it is for one symbol in 64: the others then stay in registers.
-    #[inline(never)]
-    fn codeblock<H: Hold>(
-        self,
-        hold: &mut H,
-        settings: Settings,
-        word: u64,
-    ) -> ControlFlow<Report, Decoding>
-        ensures { decoded_as result (held_in H.Hold hold.new) ≡ decoded (rules_of settings) H.Hold.showing (held_in H.Hold hold.old) self.codeblocks self.corrections word }
-    {
-        match judge(settings.mode, word) {
-            None => ControlFlow::Break(self.close(hold)),
-            Some(accepted) => self.count_in(hold, settings, accepted),
-        }
+// Judges 64 symbols, behind so many codeblocks and corrections.
+// Not inlined, since it is for one symbol in 64, and passed numbers: the others then stay in registers.
+#[inline(never)]
+fn decode<H: Hold>(
+    hold: &mut H,
+    settings: Settings,
+    codeblocks: u8,
+    corrections: u8,
+    word: u64,
+) -> ControlFlow<Report, (u8, u8)>
+    requires { (codeblocks ≤ 147) × (corrections ≤ codeblocks) }
+    ensures decoded { counted_as result (held_in H.Hold hold.new) ≡ decoded (rules_of settings) H.Hold.showing (held_in H.Hold hold.old) codeblocks corrections word }
+    ensures few { CountsFew result }
+{
+    match judge(settings.mode, word) {
+        None => ControlFlow::Break(close(hold, codeblocks, corrections)),
+        Some(accepted) => count_in(hold, settings, codeblocks, corrections, accepted),
     }
+}
 
-    // A rejected codeblock: the candidate is finished or, where nothing was added to it, abandoned.
-    fn close<H: Hold>(self, hold: &mut H) -> Report
-        ensures { ends (held_in H.Hold hold.new) result ≡ closing (held_in H.Hold hold.old) self.codeblocks self.corrections }
-    {
-        if self.codeblocks == 0 {
-            self.abandon(hold, Reason::Empty)
-        } else {
-            let _ = hold.finish();
-            self.report(Reason::Closed)
-        }
+// A rejected codeblock: the candidate is finished or, where nothing was added to it, abandoned.
+fn close<H: Hold>(hold: &mut H, codeblocks: u8, corrections: u8) -> Report
+    ensures { ends (held_in H.Hold hold.new) result ≡ closing (held_in H.Hold hold.old) codeblocks corrections }
+{
+    if codeblocks == 0 {
+        abandon(hold, Reason::Empty, codeblocks, corrections)
+    } else {
+        let _ = hold.finish();
+        report(Reason::Closed, codeblocks, corrections)
     }
+}
 
-    // An accepted codeblock: it is added, unless as many as the limit are or the hold is full.
-    fn count_in<H: Hold>(
-        self,
-        hold: &mut H,
-        settings: Settings,
-        accepted: Accepted,
-    ) -> ControlFlow<Report, Decoding>
-        ensures { decoded_as result (held_in H.Hold hold.new) ≡ counting_in (rules_of settings) H.Hold.showing (held_in H.Hold hold.old) self.codeblocks self.corrections accepted.information accepted.corrected }
-    {
-        let reason = if usize::from(self.codeblocks) >= settings.limit.count() {
-            Reason::Long
-        } else if (*hold).free_space() == 0 {
-            Reason::Full
-        } else {
-            let _ = hold.add(accepted.information);
-            return ControlFlow::Continue(Decoding {
-                count: 0,
-                word: 0,
-                codeblocks: self.codeblocks + 1,
-                corrections: self.corrections + u8::from(accepted.corrected),
-            });
-        };
-        ControlFlow::Break(self.abandon(hold, reason))
-    }
+// An accepted codeblock: it is added, unless as many as the limit are or the hold is full.
+fn count_in<H: Hold>(
+    hold: &mut H,
+    settings: Settings,
+    codeblocks: u8,
+    corrections: u8,
+    accepted: Accepted,
+) -> ControlFlow<Report, (u8, u8)>
+    requires { (codeblocks ≤ 147) × (corrections ≤ codeblocks) }
+    ensures counted { counted_as result (held_in H.Hold hold.new) ≡ counting_in (rules_of settings) H.Hold.showing (held_in H.Hold hold.old) codeblocks corrections accepted.information accepted.corrected }
+    ensures few { CountsFew result }
+{
+    let reason = if usize::from(codeblocks) >= settings.limit.count() {
+        Reason::Long
+    } else if (*hold).free_space() == 0 {
+        Reason::Full
+    } else {
+        let _ = hold.add(accepted.information);
+        return ControlFlow::Continue((codeblocks + 1, corrections + u8::from(accepted.corrected)));
+    };
+    ControlFlow::Break(abandon(hold, reason, codeblocks, corrections))
 }
