@@ -13,10 +13,10 @@ use std::ops::ControlFlow;
 /// What was read behind a start: the symbols of a codeblock so far, and what is to be told of the candidate.
 #[derive(Clone, Copy)]
 pub struct Decoding {
-    // How many symbols of the codeblock there are.
-    pub(crate) count: u8,
-    // These symbols, the first of them highest.
+    // The symbols of the codeblock, the first of them highest.
     pub(crate) word: u64,
+    // How many of them there are.
+    pub(crate) count: u8,
     // How many codeblocks were added to the candidate.
     pub(crate) codeblocks: u8,
     // How many of these were corrected.
