@@ -1,5 +1,5 @@
 -- A codeblock put behind the open candidate's others, and its codeblocks noted in its first cell. Assumes nothing.
-use Rattle.std.proofs.Common.{◌≡◌, ℕ, zero, suc, ◌+◌, ◌<◌, ◌≤◌, true, false, eqb, List, [], ◌∷◌, ◌++◌, length, get_or, take, drop, set, Some, Option, None, Ok, Err, sym, refl, ap, ◌∙◌, ap₂, add-one, arith, take-add}
+use Rattle.std.proofs.Common.{◌≡◌, ℕ, zero, suc, ◌+◌, ◌-◌, ◌<◌, ◌≤◌, true, false, eqb, List, [], ◌∷◌, ◌++◌, length, get_or, take, drop, set, Some, Option, None, Ok, Err, sym, refl, ap, ◌∙◌, ap₂, add-one, arith, take-add}
 use Rattle.std.proofs.lemmas.Grind.{common_steps}
 use Rattle.std.proofs.lemmas.List.{length-set, length-drop, length-take-le, take-set-le, drop-set, drop-set-add, drop_more, take_more_set, flat_map_more}
 use Rattle.std.proofs.lemmas.Bool.{cond-false, cond-true, ne_eqb, eq-eqb}
@@ -12,7 +12,7 @@ use Rattle.cells.specs.declared.cell.Cell.{Cell}
 use Rattle.cells.specs.declared.counts.Counts.{Counts}
 use Rattle.cells.specs.Cells.{octets_in, octets_of, first_count, grouped, parted, added, unfinished_in}
 use Rattle.cells.specs.Sound.{length_octets_take}
-use Rattle.cells.specs.Held.{stopped, held_by, finished_of, opened_of, Counted, free_cells, SameFinished, Adds, AddsNone, Stored, Finishes, FinishesNone, Noted, blank}
+use Rattle.cells.specs.Held.{stopped, held_by, add_counted, finish_counted, finished_of, opened_of, Counted, free_cells, SameFinished, Adds, AddsNone, Stored, Finishes, FinishesNone, Noted, blank}
 use Rattle.cells.proofs.Groups.{octets_in_seven, Behind, behind}
 
 -- what finishing makes of a candidate that is not empty
@@ -113,6 +113,7 @@ adds old new codeblocks cells used waiting begun room more = adds_to old new (re
 pub adds_unopened : (old : Counts) → old.unfinished ≡ None → AddsNone old old NoCandidateOpen
 adds_unopened old none =
     record {
+      reason = ap (add_counted (old.cells - held_by old)) none;
       same = refl;
       answer = λ cells counted. ap (λ u. add_answer old.cells (finished_of old cells) (unfinished_in u (drop old.used cells))) none;
       kept = λ cells octets counted.
@@ -123,6 +124,7 @@ adds_unopened old none =
 pub adds_full : (old : Counts) (codeblocks : ℕ) → old.unfinished ≡ Some codeblocks → old.cells ≤ old.used + codeblocks → AddsNone old old NoFreeSpace
 adds_full old codeblocks begun full =
     record {
+      reason = ap (add_counted (old.cells - held_by old)) begun ∙ cond-true _ _ _ (eq-eqb (old.cells - held_by old) 0 (omega (arith, full, ap added begun)));
       same = refl;
       answer = λ cells counted. ap (add_answer old.cells (finished_of old cells)) (opened_is cells) ∙ cond-true _ _ _ (none_free cells counted);
       kept = λ cells octets counted.
@@ -222,10 +224,11 @@ module _ (old new : Counts) (codeblocks : ℕ) (cells_same : new.cells ≡ old.c
       }
 
 -- no candidate is open, or an empty one
-finishes_none : (old : Counts) (why : Refusal) (still : Option Candidate) → ((cells : List Cell) → opened_of old cells ≡ still) → finish_answer still ≡ Err why →
+finishes_none : (old : Counts) (why : Refusal) (still : Option Candidate) → finish_counted old.unfinished ≡ Err why → ((cells : List Cell) → opened_of old cells ≡ still) → finish_answer still ≡ Err why →
     ((finished : List Candidate) → finished_after_finish finished still ≡ finished) → open_after_finish still ≡ still → FinishesNone old old why
-finishes_none old why still is refused finished stays =
+finishes_none old why still reason is refused finished stays =
     record {
+      reason = reason;
       same = refl;
       answer = λ cells counted. ap finish_answer (is cells) ∙ refused;
       finished = λ cells counted. ap (finished_after_finish (finished_of old cells)) (is cells) ∙ finished (finished_of old cells);
@@ -233,7 +236,7 @@ finishes_none old why still is refused finished stays =
     }
 
 pub finishes_unopened : (old : Counts) → old.unfinished ≡ None → FinishesNone old old NoCandidateOpen
-finishes_unopened old none = finishes_none old NoCandidateOpen None (λ cells. ap (λ u. unfinished_in u (drop old.used cells)) none) refl (λ finished. refl) refl
+finishes_unopened old none = finishes_none old NoCandidateOpen None (ap finish_counted none) (λ cells. ap (λ u. unfinished_in u (drop old.used cells)) none) refl (λ finished. refl) refl
 
 pub finishes_empty : (old : Counts) → old.unfinished ≡ Some 0 → FinishesNone old old CandidateEmpty
-finishes_empty old none = finishes_none old CandidateEmpty (Some []) (λ cells. ap (λ u. unfinished_in u (drop old.used cells)) none) refl (λ finished. refl) refl
+finishes_empty old none = finishes_none old CandidateEmpty (Some []) (ap finish_counted none) (λ cells. ap (λ u. unfinished_in u (drop old.used cells)) none) refl (λ finished. refl) refl

@@ -1,9 +1,9 @@
 -- What cells hold by the counts, and what the calls of a hold find there and leave. Assumes nothing.
-use Rattle.std.specs.Prelude.{◌≡◌, ℕ, ◌+◌, ◌-◌, ◌*◌, ◌<◌, ◌≤◌, min, true, List, [], ◌∷◌, length, take, drop, Some, None, Ok, Err, Option, slice_index_or, slice_set}
+use Rattle.std.specs.Prelude.{◌≡◌, ℕ, ◌+◌, ◌-◌, ◌*◌, ◌<◌, ◌≤◌, min, true, List, [], ◌∷◌, length, take, drop, Some, None, Ok, Err, Option, Result, cond, ◌==◌, slice_index_or, slice_set}
 use Rattle.std.proofs.Common.{sym, ◌∙◌, arith}
 use Rattle.std.proofs.lemmas.List.{length-take-le, length-drop}
 use Rattle.refusals.specs.declared.Refusal.{Refusal}
-use Rattle.refusals.specs.declared.Refusal.TheVariants.{NoCandidate, PastCandidateEnd}
+use Rattle.refusals.specs.declared.Refusal.TheVariants.{NoCandidate, PastCandidateEnd, NoCandidateOpen, NoFreeSpace, CandidateEmpty}
 use Rattle.hold.specs.Candidates.{Candidate, Sound, finished_codeblocks, open_codeblocks, free_space, add_answer, after_add, finish_answer, open_after_finish, finished_after_finish, release_answer, oldest_length, stretch_answer, after_stretch}
 use Rattle.hold.specs.Plain.{plain_showing}
 use Rattle.cells.specs.declared.cell.Cell.{Cell}
@@ -58,6 +58,15 @@ module _ (counts : Counts) (cells : List Cell) (counted : Counted counts cells) 
         open_whole = open_whole_unfinished counts.unfinished (drop counts.used cells) fits;
       }
 
+-- whether a codeblock can be added, and whether a candidate can be finished, by the counts alone
+abbrev pub add_counted : (free : ℕ) → Option ℕ → Result (Unit {0}) Refusal
+add_counted free None = Err NoCandidateOpen
+add_counted free (Some n) = cond (free == 0) (Err NoFreeSpace) (Ok tt)
+
+abbrev pub finish_counted : Option ℕ → Result ℕ Refusal
+finish_counted None = Err NoCandidateOpen
+finish_counted (Some n) = cond (n == 0) (Err CandidateEmpty) (Ok n)
+
 -- as many cells, and the same finished candidates
 pub record SameFinished (old new : Counts) : Type 0 where
   pub cells : new.cells ≡ old.cells
@@ -79,6 +88,7 @@ pub record Adds (old new : Counts) : Type 0 where
   pub stored : (cells : List Cell) (cell : Cell) → Counted old cells → length cell.octets ≡ 7 → Stored old new cells (slice_set cells (held_by old) cell) cell.octets
 
 pub record AddsNone (old new : Counts) (why : Refusal) : Type 0 where
+  pub reason : add_counted (old.cells - held_by old) old.unfinished ≡ Err why
   pub same : new ≡ old
   pub answer : (cells : List Cell) → Counted old cells → add_answer old.cells (finished_of old cells) (opened_of old cells) ≡ Err why
   pub kept : (cells : List Cell) (octets : List ℕ) → Counted old cells → after_add plain_showing old.cells (finished_of old cells) (opened_of old cells) octets ≡ opened_of old cells
@@ -105,6 +115,7 @@ pub record Finishes (old new : Counts) (codeblocks : ℕ) : Type 0 where
       Noted old new cells (slice_set cells old.used cell)
 
 pub record FinishesNone (old new : Counts) (why : Refusal) : Type 0 where
+  pub reason : finish_counted old.unfinished ≡ Err why
   pub same : new ≡ old
   pub answer : (cells : List Cell) → Counted old cells → finish_answer (opened_of old cells) ≡ Err why
   pub finished : (cells : List Cell) → Counted old cells → finished_after_finish (finished_of old cells) (opened_of old cells) ≡ finished_of old cells

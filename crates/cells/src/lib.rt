@@ -2,7 +2,7 @@
 //! have in common.
 #![tactic(auto)]
 
-ghost use Rattle.std.specs.Prelude.{◌≡◌, ℕ, ◌-◌, ◌<◌, ◌≤◌, min, List, length, None as absent, MatchResult};
+ghost use Rattle.std.specs.Prelude.{◌≡◌, ℕ, ◌-◌, ◌<◌, ◌≤◌, min, List, length, None as absent, MatchResult, OnErr};
 ghost use Rattle.refusals.specs.declared.Refusal.TheVariants.{PastCandidateEnd};
 ghost use Rattle.hold.specs.Candidates.{free_space, open_codeblocks, open_answer, after_open, abandon_answer};
 ghost use Rattle.cells.specs.declared.cell.Cell.{Cell};
@@ -67,6 +67,7 @@ impl Counts {
         ensures opened { (cells : List Cell) → opened_of self.new cells ≡ after_open (opened_of self.old cells) }
         ensures codeblocks { added self.new.unfinished ≡ added self.old.unfinished }
         ensures finished { SameFinished self.old self.new }
+        ensures refused { OnErr result (self.new ≡ self.old) }
     {
         if self.unfinished.is_some() {
             return Err(Refusal::CandidateOpen);
@@ -114,6 +115,7 @@ impl Counts {
         ensures answer { (cells : List Cell) → result ≡ abandon_answer (opened_of self.old cells) }
         ensures opened { self.new.unfinished ≡ absent }
         ensures finished { SameFinished self.old self.new }
+        ensures refused { OnErr result (self.new ≡ self.old) }
     {
         self.unfinished.take().ok_or(Refusal::NoCandidateOpen)?;
         Ok(())

@@ -2,7 +2,7 @@
 //! constant time for each call but the making and a read.
 #![tactic(auto)]
 
-ghost use Rattle.std.specs.Prelude.{◌≡◌, ℕ, ◌+◌, ◌-◌, ◌/◌, ◌<◌, ◌≤◌, ◌==◌, cond, min, [], length, None as absent, Ok, MatchResult, OnOk};
+ghost use Rattle.std.specs.Prelude.{◌≡◌, ℕ, ◌+◌, ◌-◌, ◌/◌, ◌<◌, ◌≤◌, ◌==◌, cond, min, [], length, None as absent, Ok, MatchResult, OnErr, OnOk};
 ghost use Rattle.randomizer.specs.declared.Randomizer.TheVariants.{Off};
 ghost use Rattle.hold.specs.Candidates.{Matches, add_answer, after_add, stretch_answer, after_stretch};
 ghost use Rattle.hold.specs.Plain.{plain_showing, plain_shows_apart};
@@ -192,7 +192,10 @@ impl<'a> Hold for Chain<'a> {
     ghost sound = { λ chain. sound_chain chain };
 
     fn open(&mut self) -> Result<(), Refusal> {
-        self.counts.open()
+        let mut counts = self.counts;
+        counts.open()?;
+        self.counts = counts;
+        Ok(())
     }
 
     #[tactic(auto, using(crate::proofs::Writes::filled_finished, crate::proofs::Writes::filled_opened))]
@@ -201,6 +204,7 @@ impl<'a> Hold for Chain<'a> {
         ensures capacity { capacity_of self.new ≡ capacity_of self.old }
         ensures finished { finished_in self.new ≡ finished_in self.old }
         ensures opened { opened_in self.new ≡ after_add plain_showing (capacity_of self.old) (finished_in self.old) (opened_in self.old) octets }
+        ensures refused { OnErr result (self.new ≡ self.old) }
         // The codeblock goes into a cell that no candidate had, and all other cells are as they were.
         ensures takes { OnOk result (TakesFree self.old self.new octets) }
     {

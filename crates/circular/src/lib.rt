@@ -4,7 +4,7 @@
 ghost use Rattle.std.specs.Prelude.{◌≡◌, ℕ, ◌<◌, ◌≤◌, List, length, IsSome, slice_get, slice_set};
 ghost use Rattle.std.specs.Option.{option_copied};
 ghost use Rattle.circular.specs.Circle.{round_from, Turned};
-ghost use Rattle.circular.specs.Turns.{in_turn};
+ghost use Rattle.circular.specs.Turns.{in_turn, memory_of, first_of};
 
 mod circle;
 
@@ -31,7 +31,9 @@ impl<'a, T: Copy> Circle<'a, T> {
     /// A circle of these cells, in which the first of them is first.
     #[tactic(auto, using(crate::proofs::Rounds::round_from_start))]
     pub fn new(cells: &'a mut [T]) -> Circle<'a, T>
-        ensures { in_turn result ≡ cells.old }
+        ensures cells { in_turn result ≡ cells.old }
+        ensures memory { memory_of result ≡ cells.old }
+        ensures first { first_of result ≡ 0 }
     {
         Circle { cells, first: 0 }
     }
@@ -61,6 +63,7 @@ impl<'a, T: Copy> Circle<'a, T> {
     #[tactic(auto, using(crate::proofs::Rounds::length_round_from, crate::proofs::Rounds::round_from_set, crate::proofs::Rounds::past))]
     pub fn set(&mut self, turn: usize, value: T)
         ensures cells { in_turn self.new ≡ slice_set (in_turn self.old) turn value }
+        ensures first { first_of self.new ≡ first_of self.old }
         ensures past { length (in_turn self.old) ≤ turn → self.new ≡ self.old }
     {
         if turn < self.cells.len() {
@@ -73,6 +76,7 @@ impl<'a, T: Copy> Circle<'a, T> {
     #[tactic(auto, using(crate::proofs::Rounds::length_round_from, crate::proofs::Rounds::round_from_on, crate::proofs::Rounds::past_all))]
     pub fn advance(&mut self, turns: usize)
         ensures cells { in_turn self.new ≡ round_from turns (in_turn self.old) }
+        ensures memory { memory_of self.new ≡ memory_of self.old }
         ensures past { length (in_turn self.old) ≤ turns → self.new ≡ self.old }
     {
         if turns < self.cells.len() {

@@ -2,6 +2,7 @@
 use Rattle.std.specs.Prelude.{ℕ, ◌≤◌}
 use Rattle.std.specs.declared.ops.ControlFlow.{ControlFlow}
 use Rattle.std.specs.declared.ops.ControlFlow.TheVariants.{Continue, Break}
+use Rattle.cltu.specs.Limit.{most_codeblocks}
 use Rattle.reception.specs.declared.Report.{Report}
 use Rattle.reception.specs.Decoding.{Held, reading, Decoded, goes_on, ends}
 
@@ -12,5 +13,5 @@ counted_as (Break report) held = ends held report
 
 -- the counts are those of a CLTU
 abbrev pub CountsFew : ControlFlow Report (ℕ × ℕ) → Type 0
-CountsFew (Continue counts) = (counts.0 ≤ 147) × (counts.1 ≤ counts.0)
+CountsFew (Continue counts) = (counts.0 ≤ most_codeblocks) × (counts.1 ≤ counts.0)
 CountsFew (Break report) = Unit {0}

@@ -1,5 +1,6 @@
 ghost use Rattle.std.specs.Prelude.{◌≡◌, ◌^◌, ◌<◌, ◌≤◌};
 ghost use Rattle.reception.specs.Decoding.{abandoning, report, ends, closing, counting_in, decoded};
+ghost use Rattle.cltu.specs.Limit.{most_codeblocks};
 ghost use Rattle.decoding.specs.Meaning.{rules_of, held_in};
 ghost use Rattle.decoding.specs.Counts.{counted_as, CountsFew};
 
@@ -23,7 +24,7 @@ pub struct Decoding {
     pub(crate) corrections: u8,
     ghost unfinished: { count < 64 },
     ghost few_bits: { word < 2 ^ count },
-    ghost few: { codeblocks ≤ 147 },
+    ghost few: { codeblocks ≤ most_codeblocks },
     ghost among: { corrections ≤ codeblocks },
 }
 
@@ -34,7 +35,8 @@ impl Decoding {
     ghost use Rattle.reception.specs.declared.Reason.TheVariants.{Down as down};
     ghost use Rattle.decoding.specs.Outcomes.{reading_in, decoded_as};
 
-    /// Begins a candidate in the hold, behind a start sequence: nothing is read yet.
+    /// Begins a candidate in the hold, behind a start sequence: nothing is read yet. Where a candidate is open it
+    /// stays open, and what is accepted is added to it; the counts begin at 0 all the same.
     pub fn begin<H: Hold>(hold: &mut H) -> Decoding
         ensures reading { reading_in result ≡ begun }
         ensures held { held_in H.Hold hold.new ≡ opening (held_in H.Hold hold.old) }
@@ -129,7 +131,7 @@ fn decode<H: Hold>(
     corrections: u8,
     word: u64,
 ) -> ControlFlow<Report, (u8, u8)>
-    requires { (codeblocks ≤ 147) × (corrections ≤ codeblocks) }
+    requires { (codeblocks ≤ most_codeblocks) × (corrections ≤ codeblocks) }
     ensures decoded { counted_as result (held_in H.Hold hold.new) ≡ decoded (rules_of settings) H.Hold.showing (held_in H.Hold hold.old) codeblocks corrections word }
     ensures few { CountsFew result }
 {
@@ -159,7 +161,7 @@ fn count_in<H: Hold>(
     corrections: u8,
     accepted: Accepted,
 ) -> ControlFlow<Report, (u8, u8)>
-    requires { (codeblocks ≤ 147) × (corrections ≤ codeblocks) }
+    requires { (codeblocks ≤ most_codeblocks) × (corrections ≤ codeblocks) }
     ensures counted { counted_as result (held_in H.Hold hold.new) ≡ counting_in (rules_of settings) H.Hold.showing (held_in H.Hold hold.old) codeblocks corrections accepted.information accepted.corrected }
     ensures few { CountsFew result }
 {

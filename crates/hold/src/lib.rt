@@ -1,7 +1,7 @@
 //! Where received candidates wait: what a hold is, and a copy out of any hold.
 #![tactic(auto)]
 
-ghost use Rattle.std.specs.Prelude.{◌≡◌, ℕ, ◌≤◌, List, length, None as absent, Ok, Option as Optional};
+ghost use Rattle.std.specs.Prelude.{◌≡◌, ℕ, ◌≤◌, List, length, None as absent, Ok, Option as Optional, OnErr};
 ghost use Rattle.hold.specs.Candidates.{Candidate, Showing, ShowsApart, Sound, free_space, open_codeblocks, open_answer, after_open, add_answer, after_add, finish_answer, open_after_finish, finished_after_finish, abandon_answer, release_answer, after_release, oldest_length, oldest_octet, stretch_answer, after_stretch, copy_answer, after_copy};
 
 use bch::INFORMATION_OCTETS;
@@ -28,7 +28,8 @@ pub trait Hold {
         ensures answer { result ≡ open_answer (opened self.old) }
         ensures capacity { capacity self.new ≡ capacity self.old }
         ensures finished { finished self.new ≡ finished self.old }
-        ensures opened { opened self.new ≡ after_open (opened self.old) };
+        ensures opened { opened self.new ≡ after_open (opened self.old) }
+        ensures refused { OnErr result (self.new ≡ self.old) };
 
     /// Appends a codeblock to the open candidate, each octet as it shows at its place. Refused with 11
     /// where none is open, and with 12 where there is no free space.
@@ -36,7 +37,8 @@ pub trait Hold {
         ensures answer { result ≡ add_answer (capacity self.old) (finished self.old) (opened self.old) }
         ensures capacity { capacity self.new ≡ capacity self.old }
         ensures finished { finished self.new ≡ finished self.old }
-        ensures opened { opened self.new ≡ after_add showing (capacity self.old) (finished self.old) (opened self.old) octets };
+        ensures opened { opened self.new ≡ after_add showing (capacity self.old) (finished self.old) (opened self.old) octets }
+        ensures refused { OnErr result (self.new ≡ self.old) };
 
     /// Makes the open candidate the last finished one. Refused with 11 where none is open, and with 13
     /// where it is empty.
@@ -44,21 +46,24 @@ pub trait Hold {
         ensures answer { result ≡ finish_answer (opened self.old) }
         ensures capacity { capacity self.new ≡ capacity self.old }
         ensures finished { finished self.new ≡ finished_after_finish (finished self.old) (opened self.old) }
-        ensures opened { opened self.new ≡ open_after_finish (opened self.old) };
+        ensures opened { opened self.new ≡ open_after_finish (opened self.old) }
+        ensures refused { OnErr result (self.new ≡ self.old) };
 
     /// Drops the open candidate and frees its space. Refused with 11 where none is open.
     fn abandon(&mut self) -> Result<(), Refusal>
         ensures answer { result ≡ abandon_answer (opened self.old) }
         ensures capacity { capacity self.new ≡ capacity self.old }
         ensures finished { finished self.new ≡ finished self.old }
-        ensures opened { opened self.new ≡ absent };
+        ensures opened { opened self.new ≡ absent }
+        ensures refused { OnErr result (self.new ≡ self.old) };
 
     /// Removes the oldest finished candidate and frees its space. Refused with 7 where none waits.
     fn release(&mut self) -> Result<(), Refusal>
         ensures answer { result ≡ release_answer (finished self.old) }
         ensures capacity { capacity self.new ≡ capacity self.old }
         ensures finished { finished self.new ≡ after_release (finished self.old) }
-        ensures opened { opened self.new ≡ opened self.old };
+        ensures opened { opened self.new ≡ opened self.old }
+        ensures refused { OnErr result (self.new ≡ self.old) };
 
     /// How many codeblocks can still be added.
     fn free_space(&self) -> usize

@@ -2,7 +2,7 @@
 use Rattle.std.specs.Prelude.{ℕ, List, [], ◌∷◌, ◌++◌, length, take, drop, Option, Some, None, Result, Ok, Err}
 use Rattle.refusals.specs.declared.Refusal.{Refusal}
 use Rattle.refusals.specs.declared.Refusal.TheVariants.{QueueFull, QueueEmpty}
-use Rattle.circular.specs.Turns.{in_turn}
+use Rattle.circular.specs.Turns.{in_turn, memory_of as memory_in, first_of as first_in}
 use Rattle.queue.specs.declared.slots.Queue.{Queue}
 
 module _ {X : Type 0} where
@@ -26,6 +26,13 @@ pub record Slots (X : Type 0) : Type 0 where
 module _ {X : Type 0} where
   abbrev pub slots_of : Queue X → Slots X
   slots_of q = record { waiting = waiting q; free = free q }
+
+  -- the lent slots as they lie in memory, and the place of the slot whose turn is first
+  abbrev pub memory_of : Queue X → List X
+  memory_of q = memory_in q.slots
+
+  abbrev pub first_of : Queue X → ℕ
+  first_of q = first_in q.slots
 
   -- nothing waits
   abbrev pub all_free : List X → Slots X

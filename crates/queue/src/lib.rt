@@ -3,7 +3,7 @@
 
 ghost use Rattle.std.specs.Prelude.{◌≡◌, ◌+◌, [], ◌∷◌, length, OnOk, OnErr};
 ghost use Rattle.std.specs.Option.{option_copied};
-ghost use Rattle.queue.specs.Waiting.{waiting, free, capacity, slots_of, all_free, with_behind, without_oldest, front, put_answer, take_answer};
+ghost use Rattle.queue.specs.Waiting.{waiting, free, capacity, slots_of, memory_of, first_of, all_free, with_behind, without_oldest, front, put_answer, take_answer};
 
 use circular::Circle;
 use refusals::Refusal;
@@ -15,7 +15,9 @@ pub use slots::Queue;
 impl<'a, T: Copy> Queue<'a, T> {
     /// A queue over these slots, in which nothing waits: all of them are free, and hold what they held.
     pub fn new(slots: &'a mut [T]) -> Queue<'a, T>
-        ensures { slots_of result ≡ all_free slots.old }
+        ensures slots { slots_of result ≡ all_free slots.old }
+        ensures memory { memory_of result ≡ slots.old }
+        ensures first { first_of result ≡ 0 }
     {
         Queue {
             slots: Circle::new(slots),
@@ -56,6 +58,9 @@ impl<'a, T: Copy> Queue<'a, T> {
     pub fn put(&mut self, record: T) -> Result<(), Refusal>
         ensures answer { result ≡ put_answer (free self.old) }
         ensures accepted { OnOk result (slots_of self.new ≡ with_behind («record» ∷ []) (slots_of self.old)) }
+        // So no other slot is written, and none is moved in memory.
+        ensures first { first_of self.new ≡ first_of self.old }
+        ensures slots { capacity self.new ≡ capacity self.old }
         ensures refused { OnErr result (self.new ≡ self.old) }
     {
         let waiting = self.len();
@@ -73,6 +78,8 @@ impl<'a, T: Copy> Queue<'a, T> {
     pub fn take(&mut self) -> Result<T, Refusal>
         ensures answer { result ≡ take_answer (waiting self.old) }
         ensures accepted { OnOk result (slots_of self.new ≡ without_oldest (slots_of self.old)) }
+        ensures memory { memory_of self.new ≡ memory_of self.old }
+        ensures slots { capacity self.new ≡ capacity self.old }
         ensures refused { OnErr result (self.new ≡ self.old) }
     {
         let Some(oldest) = self.front().copied() else {

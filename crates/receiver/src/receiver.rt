@@ -25,6 +25,7 @@ impl<H: Hold> Receiver<H> {
     ghost use Rattle.reception.specs.Calls.{call_up, call_down, symbol_events, call_release, refusal, answered};
     ghost use Rattle.reception.specs.Promise.{ReceiverPromise};
     ghost use Rattle.searching.specs.Symbols.{decisions};
+    ghost use Rattle.searching.specs.Windows.{entered, last_bits};
     ghost use Rattle.decoding.specs.Meaning.{rules_of, held_in};
     ghost use Rattle.receiver.specs.Phases.{phase_of};
     ghost use Rattle.receiver.specs.Meaning.{settings_of, lost_of, hold_of, held_by, state_of, free_slots, symbols_call};
@@ -94,6 +95,7 @@ impl<H: Hold> Receiver<H> {
     pub fn release(&mut self) -> Result<(), Refusal>
         ensures answer { result ≡ answered (refusal (state_of H.Hold self.old) call_release) tt }
         ensures after { Called H.Hold call_release self.old self.new }
+        ensures refused { OnErr result (self.new ≡ self.old) }
     {
         self.hold.release()
     }
@@ -221,7 +223,7 @@ impl<H: Hold> Receiver<H> {
     // A symbol in SEARCH, with this window so far.
     // The phase is written in each branch: chosen first and then moved, it goes through memory.
     fn search(&mut self, window: Window, bit: bool)
-        ensures outcome { quietly (state_of H.Hold self.new).phase (held_by H.Hold self.new) ≡ at_symbol (rules_of (settings_of self.old)) H.Hold.showing (SEARCH window.count window.bits) (held_by H.Hold self.old) bit }
+        ensures outcome { quietly (state_of H.Hold self.new).phase (held_by H.Hold self.new) ≡ at_symbol (rules_of (settings_of self.old)) H.Hold.showing (SEARCH (entered window) (last_bits window)) (held_by H.Hold self.old) bit }
         ensures settings { settings_of self.new ≡ settings_of self.old }
         ensures lost { lost_of self.new ≡ lost_of self.old }
     {
@@ -242,7 +244,7 @@ impl<H: Hold> Receiver<H> {
     {
         match (self.state.phase, event) {
             (Phase::Inactive, Event::CarrierUp) => {
-                self.state.phase = Phase::Search(Window::EMPTY);
+                self.state.phase = Phase::Search(Window::empty());
                 Ok(None)
             }
             (Phase::Inactive, Event::CarrierDown) => Err(Refusal::CarrierDown),
@@ -271,7 +273,7 @@ impl<H: Hold> Receiver<H> {
                         Ok(None)
                     }
                     ControlFlow::Break(report) => {
-                        self.state.phase = Phase::Search(Window::EMPTY);
+                        self.state.phase = Phase::Search(Window::empty());
                         Ok(Some(report))
                     }
                 }

@@ -40,12 +40,6 @@ abbrev pub refused_if_none : List Candidate → Option Refusal
 refused_if_none [] = Some NoCandidate
 refused_if_none (candidate ∷ rest) = None
 
-abbrev pub event_refusal : State → Event → Option Refusal
-event_refusal s carrier_up = refused_if_up s.phase
-event_refusal s carrier_down = refused_if_down s.phase
-event_refusal s (symbol b) = refused_if_down s.phase
-event_refusal s release = refused_if_none s.held.finished
-
 -- symbols are refused in INACTIVE also where there are none
 abbrev pub refusal : State → Call → Option Refusal
 refusal s call_up = refused_if_up s.phase

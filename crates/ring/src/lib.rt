@@ -83,31 +83,41 @@ impl<'a> Hold for Ring<'a> {
     ghost sound = { λ ring. sound_ring ring };
 
     fn open(&mut self) -> Result<(), Refusal> {
-        self.counts.open()
+        let mut counts = self.counts;
+        counts.open()?;
+        self.counts = counts;
+        Ok(())
     }
 
     fn add(&mut self, octets: [u8; 7]) -> Result<(), Refusal> {
         let turn = self.counts.held();
-        self.counts.add()?;
+        let mut counts = self.counts;
+        counts.add()?;
         let cell = Cell {
             octets,
             codeblocks: 0,
         };
         self.cells.set(turn, cell);
+        self.counts = counts;
         Ok(())
     }
 
     fn finish(&mut self) -> Result<(), Refusal> {
         let turn = self.counts.used;
-        let codeblocks = self.counts.finish()?;
+        let mut counts = self.counts;
+        let codeblocks = counts.finish()?;
         let mut cell = *self.cells.get(turn).unwrap();
         cell.codeblocks = codeblocks as u16;
         self.cells.set(turn, cell);
+        self.counts = counts;
         Ok(())
     }
 
     fn abandon(&mut self) -> Result<(), Refusal> {
-        self.counts.abandon()
+        let mut counts = self.counts;
+        counts.abandon()?;
+        self.counts = counts;
+        Ok(())
     }
 
     #[tactic(auto, using(crate::proofs::Turns::finished_behind, crate::proofs::Turns::whole_behind, crate::proofs::Turns::open_behind, crate::proofs::Turns::as_many))]

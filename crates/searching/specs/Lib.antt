@@ -1,3 +1,4 @@
 -- What symbols count as. Assumes nothing.
 pub mod Levels
 pub mod Symbols
+pub mod Windows

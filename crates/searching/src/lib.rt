@@ -5,6 +5,7 @@
 ghost use Rattle.std.specs.Prelude.{◌≡◌, Bool};
 ghost use Rattle.reception.specs.Searching.{next_count, next_window, start_tolerance, is_start};
 ghost use Rattle.searching.specs.Levels.{is_negative};
+ghost use Rattle.searching.specs.Windows.{entered, last_bits};
 
 use bch::Mode;
 
@@ -49,12 +50,17 @@ pub struct Window {
 
 impl Window {
     /// A window that no symbol has entered.
-    pub const EMPTY: Window = Window { count: 0, bits: 0 };
+    pub fn empty() -> Window
+        ensures count { entered result ≡ 0 }
+        ensures bits { last_bits result ≡ 0 }
+    {
+        Window { count: 0, bits: 0 }
+    }
 
     /// The window after one more symbol.
     pub fn with(self, bit: bool) -> Window
-        ensures count { result.count ≡ next_count self.count }
-        ensures bits { result.bits ≡ next_window self.bits bit }
+        ensures count { entered result ≡ next_count (entered self) }
+        ensures bits { last_bits result ≡ next_window (last_bits self) bit }
     {
         Window {
             count: self.count.saturating_add(1).min(16),
@@ -65,7 +71,7 @@ impl Window {
     /// Whether 16 symbols are there that differ from the start sequence EB 90 in no more bits than the
     /// mode allows: one when correcting, none when detecting.
     pub fn is_start(self, mode: Mode) -> bool
-        ensures { result ≡ is_start mode self.count self.bits }
+        ensures { result ≡ is_start mode (entered self) (last_bits self) }
     {
         self.count == 16 && (self.bits ^ START_SEQUENCE).count_ones() <= tolerance(mode)
     }
