@@ -12,13 +12,15 @@ use Rattle.reception.specs.Decoding.{Settings, Held, room}
 use Rattle.reception.specs.Rules.{Phase, INACTIVE, SEARCH, DECODE, State, state, Event, carrier_up, carrier_down, at_up, made}
 use Rattle.reception.specs.Runs.{after_events, symbols_in, CarrierStaysUp, Clear}
 use Rattle.reception.specs.Allowance.{ReceivedCltu, symbols_of, WithinAllowance, undamaged}
-use Rattle.reception.specs.Promise.{IdleOrNothing, CarrierStaysDown, Transmission, events_of, WellSent, announced, new_candidates}
+use Rattle.reception.specs.Finished.{announced, new_candidates}
+use Rattle.reception.specs.Gaps.{IdleOrNothing, CarrierStaysDown}
+use Rattle.reception.specs.Sent.{Transmission, events_of, WellSent}
 use Rattle.reception.proofs.Brings.{after_append, new_append}
 use Rattle.reception.proofs.Decoding.{length_shown_from}
 use Rattle.reception.proofs.Finished.{run_keeps}
 use Rattle.reception.proofs.Kept.{KeptState, run_keeps as kept_on, kept_from_making, none_open_in_inactive}
 use Rattle.reception.proofs.Sent.{idle_gap, away_comes, one_well_sent, under_filled, shown_back}
-use Rattle.reception.proofs.Undamaged.{length_blocks, within_undamaged}
+use Rattle.reception.proofs.Undamaged.{as_sent_is_within_the_allowance}
 use Rattle.procedures.specs.Stretch.{Parameters, frames_in}
 use Rattle.procedures.specs.Reception.{SentUndamaged, FramesWithin, codeblocks_of, ReceivedStretch, events_of_stretch, BroughtUndamaged, frames_of, AStretchIsReceived, ASessionIsReceived, SessionPromise}
 use Rattle.procedures.proofs.Stretches.{a_stretch_is_cltus_with_idle_between}
@@ -42,12 +44,13 @@ module _ (settings : Settings) (showing : Showing) (randomizer : Randomizer) whe
       AllBelowBase 256 frame → 1 ≤ length frame → codeblocks_for (length frame) ≤ settings.limit → codeblocks_for (length frame) ≤ room s.held → WellSent settings showing randomizer s t
   well_sent s t frame same undamaged-one up symbols octets some few space =
       let P = λ (f : List ℕ) (r : ReceivedCltu). WithinAllowance settings (randomized randomizer (filled f)) r in
+      let sent = as_sent_is_within_the_allowance settings randomizer frame octets some few in
       record {
         octets = subst (λ f. AllBelowBase 256 f) (sym same) octets;
         carrier = up;
         symbols = symbols;
-        within = subst (λ f. P f t.received) (sym same) (subst (λ r. P frame r) (sym undamaged-one) (within_undamaged settings showing randomizer frame octets some few));
-        space = omega (arith, ap (λ r. length r.blocks) undamaged-one, length_blocks (codeblocks_for (length frame)) (randomized randomizer (filled frame)));
+        within = subst (λ f. P f t.received) (sym same) (subst (λ r. P frame r) (sym undamaged-one) sent.0);
+        space = omega (arith, ap (λ r. length r.blocks) undamaged-one, sent.2);
       }
 
   codeblocks_shown : (frame : List ℕ) → finished_codeblocks (shown frame ∷ []) ≡ codeblocks_for (length frame)

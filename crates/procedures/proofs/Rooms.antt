@@ -9,7 +9,7 @@ use Rattle.reception.specs.Searching.{is_start, next_count, next_window}
 use Rattle.reception.specs.Decoding.{Settings, Held, abandoning, adding, room, reading, goes_on, ends, report, closing, decoded_by, with_symbol, read_word}
 use Rattle.reception.specs.Rules.{Phase, INACTIVE, SEARCH, DECODE, State, state, Event, carrier_up, carrier_down, symbol, release, Outcome, at_window, at_decoded, at_event}
 use Rattle.reception.specs.Runs.{after_events}
-use Rattle.reception.specs.Promise.{new_candidates, releases_accepted}
+use Rattle.reception.specs.Finished.{new_candidates, releases_accepted}
 use Rattle.reception.proofs.Finished.{run_keeps}
 use Rattle.reception.proofs.Kept.{KeptState}
 

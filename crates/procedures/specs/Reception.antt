@@ -11,7 +11,9 @@ use Rattle.reception.specs.Decoding.{Settings, Held, room}
 use Rattle.reception.specs.Rules.{INACTIVE, State, Event, carrier_up, carrier_down, made}
 use Rattle.reception.specs.Runs.{after_events, symbols_in, CarrierStaysUp, Clear}
 use Rattle.reception.specs.Allowance.{undamaged, symbols_of}
-use Rattle.reception.specs.Promise.{IdleOrNothing, CarrierStaysDown, Transmission, events_of, new_candidates, releases_accepted}
+use Rattle.reception.specs.Finished.{new_candidates, releases_accepted}
+use Rattle.reception.specs.Gaps.{IdleOrNothing, CarrierStaysDown}
+use Rattle.reception.specs.Sent.{Transmission, events_of}
 use Rattle.procedures.specs.Stretch.{Parameters, Writing, stretch_octets, frames_in}
 
 -- the CLTUs of these frames as they were sent, with idle or nothing before each

@@ -7,7 +7,7 @@ use Rattle.reception.specs.Decoding.{Settings, Held, releasing, Reading, decoded
 use Rattle.reception.specs.Rules.{DECODE, State, state, Event, carrier_up, carrier_down, symbol, release, Outcome, at_decoded, at_event}
 use Rattle.reception.specs.Runs.{after_events, symbols_in, CarrierStaysUp}
 use Rattle.reception.specs.Allowance.{value_from}
-use Rattle.reception.specs.Promise.{announced, new_candidates}
+use Rattle.reception.specs.Finished.{announced, new_candidates}
 
 abbrev pub Brings : List Bool → List Event → Type 0
 Brings [] [] = Unit {0}

@@ -9,7 +9,7 @@ use Rattle.reception.specs.Searching.{next_count, next_window, is_start}
 use Rattle.reception.specs.Decoding.{Settings, Held, added, Reading, Decoded, goes_on, ends, decoded, with_symbol, read_word}
 use Rattle.reception.specs.Rules.{Phase, INACTIVE, SEARCH, DECODE, State, state, Event, carrier_up, carrier_down, symbol, release, at_window, at_decoded, at_event, made}
 use Rattle.reception.specs.Runs.{after_events, reports_of}
-use Rattle.reception.specs.Promise.{is_decode, CorrectionsAreAmongTheCodeblocks, AReportTellsTheCodeblocksHeld, ACandidateIsOpenJustInDecode}
+use Rattle.reception.specs.Told.{is_decode, CorrectionsAreAmongTheCodeblocks, AReportTellsTheCodeblocksHeld, ACandidateIsOpenJustInDecode}
 use Rattle.reception.proofs.Decoding.{IsOpen, GoesRight, codeblock_goes_right}
 use Rattle.reception.proofs.Kept.{Kept, KeptState, event_keeps, kept_from_making}
 

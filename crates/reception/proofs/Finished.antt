@@ -12,7 +12,7 @@ use Rattle.reception.specs.Decoding.{Settings, Held, abandoning, adding, added, 
 use Rattle.reception.specs.Rules.{Phase, INACTIVE, SEARCH, DECODE, State, state, Event, carrier_up, carrier_down, symbol, release, Outcome, at_window, at_decoded, at_event, made}
 use Rattle.reception.specs.Runs.{after_events}
 use Rattle.reception.proofs.Kept.{Kept, KeptState, event_keeps as kept_on, kept_from_making}
-use Rattle.reception.specs.Promise.{announced_by, announced, accepted_release, new_candidates, releases_accepted, WhatIsFinishedStays}
+use Rattle.reception.specs.Finished.{announced_by, announced, accepted_release, new_candidates, releases_accepted, WhatIsFinishedStays}
 
 -- one outcome adds what it announces to what is finished
 Adds : Held → Outcome → Type 0

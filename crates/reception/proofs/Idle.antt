@@ -11,7 +11,7 @@ use Rattle.reception.specs.Searching.{next_count, next_window, is_start}
 use Rattle.reception.specs.Decoding.{Settings, Held, opening, added, Reading, begun, Decoded, goes_on, ends, closing, decoded_by, decoded, with_symbol, read_word}
 use Rattle.reception.specs.Rules.{Phase, INACTIVE, SEARCH, DECODE, State, state, Event, carrier_up, carrier_down, symbol, release, at_window, at_decoded, at_event, made}
 use Rattle.reception.specs.Runs.{after_events, symbols_in, CarrierStaysUp, CarrierIsUp, NothingButIdle, Clear, idle, recovery_bits}
-use Rattle.reception.specs.Promise.{IdleBringsItBack}
+use Rattle.reception.specs.Recovery.{IdleBringsItBack}
 use Rattle.reception.proofs.Windows.{EndsIdle, fewer, no_start_after_four, no_exact_start_after_two, one_more_idle, still_idle, not_yet_full}
 use Rattle.reception.proofs.Decoding.{IsOpen, GoesRight, codeblock_goes_right}
 use Rattle.reception.proofs.Kept.{Kept, not_whole, began, kept_from_making}

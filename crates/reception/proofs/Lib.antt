@@ -15,4 +15,5 @@ pub mod Starts
 pub mod Received
 pub mod Sent
 pub mod Undamaged
+pub mod Joined
 pub mod Promises

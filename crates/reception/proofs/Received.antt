@@ -17,7 +17,7 @@ use Rattle.reception.specs.Decoding.{Settings, Held, opening, adding, abandoning
 use Rattle.reception.specs.Rules.{SEARCH, DECODE, state, Event, carrier_up, carrier_down, symbol, release, at_window, at_decoded, quietly}
 use Rattle.reception.specs.Runs.{after_events}
 use Rattle.reception.specs.Allowance.{value_from, value, block_tolerance, BlocksWithin}
-use Rattle.reception.specs.Promise.{announced, new_candidates}
+use Rattle.reception.specs.Finished.{announced, new_candidates}
 use Rattle.reception.proofs.Decoding.{seven_more, length_shown_from}
 use Rattle.reception.proofs.Windows.{not_yet_full}
 use Rattle.reception.proofs.Starts.{Follows, goes_in, window_below, no_false_start, start_is_found}

@@ -14,7 +14,9 @@ use Rattle.reception.specs.Decoding.{Settings, Held, opening, finishing, room, r
 use Rattle.reception.specs.Rules.{Phase, INACTIVE, SEARCH, DECODE, State, state, Event, carrier_up, carrier_down, symbol, release, at_window, at_decoded, reporting, searching, at_up, made}
 use Rattle.reception.specs.Runs.{after_events, symbols_in, CarrierStaysUp, NothingButIdle, Clear, idle, idle_before}
 use Rattle.reception.specs.Allowance.{value, ReceivedCltu, symbols_of, WithinAllowance}
-use Rattle.reception.specs.Promise.{announced, new_candidates, IdleOrNothing, CarrierUpMakesItReady, CarrierStaysDown, CarrierBreak, Transmission, information_sent, events_of, WellSent, FollowOneAnother, SentFrom, WhatIsSentThenIsReceived}
+use Rattle.reception.specs.Finished.{announced, new_candidates}
+use Rattle.reception.specs.Gaps.{IdleOrNothing, CarrierUpMakesItReady, CarrierStaysDown, CarrierBreak}
+use Rattle.reception.specs.Sent.{Transmission, information_sent, events_of, WellSent, FollowOneAnother, SentFrom, WhatIsSentThenIsReceived}
 use Rattle.reception.proofs.Decoding.{length_shown_from}
 use Rattle.reception.proofs.Kept.{none_open_in_inactive}
 use Rattle.reception.proofs.Idle.{idle_is_no_start, idle_goes_in}

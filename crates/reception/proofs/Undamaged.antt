@@ -23,8 +23,9 @@ use Rattle.reception.specs.Decoding.{Settings}
 use Rattle.reception.specs.Rules.{made}
 use Rattle.reception.specs.Runs.{after_events}
 use Rattle.bch.specs.Bits.{bit_at, octet_bits, bits_of}
-use Rattle.reception.specs.Allowance.{value_from, value, block_tolerance, BlocksWithin, WithinAllowance, blocks_of, undamaged, symbols_of}
-use Rattle.reception.specs.Promise.{UndamagedComesBack, Transmission, WellSent, new_candidates}
+use Rattle.reception.specs.Allowance.{value_from, value, block_tolerance, BlocksWithin, WithinAllowance, blocks_of, undamaged, symbols_of, AsSentIsWithinTheAllowance}
+use Rattle.reception.specs.Finished.{new_candidates}
+use Rattle.reception.specs.Sent.{UndamagedComesBack, Transmission, WellSent}
 use Rattle.reception.proofs.Sent.{under_filled, what_is_sent_then_is_received}
 
 bit_is : (m : ℕ) → (m ≡ 0) ⊎ (m ≡ 1) → bit_value (eqb m 1) ≡ m
@@ -94,8 +95,8 @@ symbols_undamaged randomizer frame =
     let blocks = coded (codeblocks_for (length frame)) (randomized randomizer (filled frame)) in
     bits_append start_sequence (blocks ++ tail_sequence) ∙ ap (λ l. bits_of start_sequence ++ l) (bits_append blocks tail_sequence ∙ ap (λ l. l ++ bits_of tail_sequence) (sym (joined_blocks (codeblocks_for (length frame)) (randomized randomizer (filled frame)))))
 
-module _ (settings : Settings) (showing : Showing) (randomizer : Randomizer) where
-  pub within_undamaged : (frame : List ℕ) → AllBelowBase 256 frame → 1 ≤ length frame → codeblocks_for (length frame) ≤ settings.limit → WithinAllowance settings (randomized randomizer (filled frame)) (undamaged randomizer frame)
+module _ (settings : Settings) (randomizer : Randomizer) where
+  within_undamaged : (frame : List ℕ) → AllBelowBase 256 frame → 1 ≤ length frame → codeblocks_for (length frame) ≤ settings.limit → WithinAllowance settings (randomized randomizer (filled frame)) (undamaged randomizer frame)
   within_undamaged frame octets some few =
       let n = codeblocks_for (length frame) in
       let sent_octets = randomized randomizer (filled frame) in
@@ -111,11 +112,19 @@ module _ (settings : Settings) (showing : Showing) (randomizer : Randomizer) whe
         tail_right = omega (arith, tail_undamaged);
       }
 
+  pub as_sent_is_within_the_allowance : AsSentIsWithinTheAllowance settings randomizer
+  as_sent_is_within_the_allowance frame octets some few = (
+    within_undamaged frame octets some few,
+    sym (symbols_undamaged randomizer frame),
+    length_blocks (codeblocks_for (length frame)) (randomized randomizer (filled frame)),
+  )
+
+module _ (settings : Settings) (showing : Showing) (randomizer : Randomizer) where
   pub undamaged_comes_back : UndamagedComesBack settings showing randomizer
   undamaged_comes_back hold earlier later frame clear octets some few space up symbols matches =
       let then = after_events settings showing (made hold) earlier in
-      let n = codeblocks_for (length frame) in
+      let sent = as_sent_is_within_the_allowance settings randomizer frame octets some few in
       let t : Transmission = record { gap = []; frame = frame; received = undamaged randomizer frame; events = later } in
-      let well : WellSent settings showing randomizer then t = record { octets = octets; carrier = up; symbols = symbols ∙ symbols_undamaged randomizer frame; within = within_undamaged frame octets some few; space = omega (arith, length_blocks n (randomized randomizer (filled frame))) } in
+      let well : WellSent settings showing randomizer then t = record { octets = octets; carrier = up; symbols = symbols ∙ sym sent.1; within = sent.0; space = omega (arith, sent.2) } in
       let all = what_is_sent_then_is_received settings showing randomizer hold earlier (t ∷ []) clear (refl, well, tt) in
       ap (new_candidates settings showing then) (sym (append-nil later)) ∙ all.2 matches

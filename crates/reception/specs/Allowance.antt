@@ -1,6 +1,7 @@
--- A CLTU as it is received, and when it is within the allowance. Bits are taken as numbers, the first bit the highest. Assumes nothing.
+-- A CLTU as it is received, and when it is within the allowance. Bits are taken as numbers, the first bit the highest.
+-- Assumes nothing.
 use Rattle.std.specs.Prelude.{◌≡◌, ℕ, zero, suc, ◌+◌, ◌*◌, ◌≤◌, Bool, List, [], ◌∷◌, ◌++◌, length, take, drop}
-use Rattle.std.specs.Int.Digits.{number_from_digits}
+use Rattle.std.specs.Int.Digits.{AllBelowBase, number_from_digits}
 use Rattle.std.specs.List.{flat_map}
 use Rattle.bch.specs.declared.Mode.{Mode}
 use Rattle.bch.specs.declared.Mode.TheVariants.{Detecting, Correcting}
@@ -10,7 +11,7 @@ use Rattle.bch.specs.Codeblock.{codeblock, sent}
 use Rattle.bch.specs.Reception.{wrong_bits}
 use Rattle.randomizer.specs.declared.Randomizer.{Randomizer}
 use Rattle.randomizer.specs.Sequence.{randomized}
-use Rattle.cltu.specs.Cltu.{codeblocks_for, filled, start_sequence, tail_sequence}
+use Rattle.cltu.specs.Cltu.{codeblocks_for, filled, start_sequence, tail_sequence, cltu}
 use Rattle.reception.specs.Symbols.{bit_value}
 use Rattle.reception.specs.Searching.{start_tolerance}
 use Rattle.reception.specs.Decoding.{Settings}
@@ -45,7 +46,8 @@ tail_tolerance Detecting = 2
 abbrev pub BlocksWithin : Mode → List ℕ → List (List Bool) → Type 0
 BlocksWithin mode octets [] = Unit {0}
 BlocksWithin mode octets (block ∷ blocks) =
-    (length block ≡ 64) × (wrong_bits (sent (take 7 octets)) (value block) ≤ block_tolerance mode) × BlocksWithin mode (drop 7 octets) blocks
+    (length block ≡ 64) × (wrong_bits (sent (take 7 octets)) (value block) ≤ block_tolerance mode)
+    × BlocksWithin mode (drop 7 octets) blocks
 
 -- of the CLTU whose information is these octets
 pub record WithinAllowance (settings : Settings) (octets : List ℕ) (cltu : ReceivedCltu) : Type 0 where
@@ -70,3 +72,11 @@ undamaged randomizer frame =
       blocks = blocks_of (codeblocks_for (length frame)) (randomized randomizer (filled frame));
       tail = bits_of tail_sequence;
     }
+
+-- where the limit allows its codeblocks, what is received as it was sent is within the allowance
+abbrev pub AsSentIsWithinTheAllowance : Settings → Randomizer → Type 0
+AsSentIsWithinTheAllowance settings randomizer =
+    (frame : List ℕ) → AllBelowBase 256 frame → 1 ≤ length frame → codeblocks_for (length frame) ≤ settings.limit →
+    WithinAllowance settings (randomized randomizer (filled frame)) (undamaged randomizer frame)
+    × (symbols_of (undamaged randomizer frame) ≡ bits_of (cltu randomizer frame))
+    × (length (undamaged randomizer frame).blocks ≡ codeblocks_for (length frame))

@@ -1,5 +1,6 @@
--- The calls of a receiver. A call is a list of events; the state at its beginning decides whether it is refused, and a refused call changes
--- nothing. The reports of a call go into the queue that the caller brings, and what finds no place there is lost. Assumes nothing.
+-- The calls of a receiver. A call is a list of events; the state at its beginning decides whether it is refused, and a
+-- refused call changes nothing. The reports of a call go into the queue that the caller brings, and what finds no place
+-- there is lost. Assumes nothing.
 use Rattle.std.specs.Prelude.{◌≡◌, ℕ, ◌+◌, ◌-◌, min, Bool, List, [], ◌∷◌, ◌++◌, length, take, Some, None, Ok, Err, Option, Result}
 use Rattle.refusals.specs.declared.Refusal.{Refusal}
 use Rattle.refusals.specs.declared.Refusal.TheVariants.{CarrierAlreadyUp, CarrierDown, NoCandidate}
@@ -79,8 +80,11 @@ module _ (settings : Settings) (showing : Showing) where
 
   -- so that what holds after every list of events holds after every list of calls, however symbols are spread over them
   abbrev pub CallsRunAsTheirEvents : Type 0
-  CallsRunAsTheirEvents = (hold : Held) (calls : List Call) → after_calls hold calls ≡ after_events settings showing (made hold) (events_of_calls calls)
+  CallsRunAsTheirEvents =
+      (hold : Held) (calls : List Call) →
+      after_calls hold calls ≡ after_events settings showing (made hold) (events_of_calls calls)
 
   abbrev pub ARefusedCallChangesNothing : Type 0
   ARefusedCallChangesNothing =
-      (s : State) (call : Call) (why : Refusal) → refusal s call ≡ Some why → (after_call s call ≡ s) × (reports_in s call ≡ [])
+      (s : State) (call : Call) (why : Refusal) → refusal s call ≡ Some why →
+      (after_call s call ≡ s) × (reports_in s call ≡ [])

@@ -1,6 +1,7 @@
--- Decoding: what becomes of a candidate behind a start sequence, symbol by symbol, by the settings in force, by what was read of it
--- so far and by what the hold means. Nothing here knows how a start is found, of windows, carriers or states: whoever decodes
--- brings the settings at each symbol, and is told that the candidate goes on or that it ended. Assumes nothing.
+-- Decoding: what becomes of a candidate behind a start sequence, symbol by symbol, by the settings in force, by what
+-- was read of it so far and by what the hold means. Nothing here knows how a start is found, of windows, carriers or
+-- states: whoever decodes brings the settings at each symbol, and is told that the candidate goes on or that it ended.
+-- Assumes nothing.
 use Rattle.std.specs.Prelude.{ℕ, zero, suc, ◌+◌, ◌*◌, Bool, true, false, cond, List, Some, None, Option, ◌==◌, nat_le}
 use Rattle.bch.specs.declared.Mode.{Mode}
 use Rattle.bch.specs.declared.Accepted.{Accepted}
@@ -11,7 +12,7 @@ use Rattle.reception.specs.declared.Reason.TheVariants.{Closed, Empty, Long, Ful
 use Rattle.reception.specs.declared.Report.{Report}
 use Rattle.reception.specs.Symbols.{bit_value}
 
--- the mode, and the greatest count of codeblocks in a CLTU
+-- the mode, and the limit: no CLTU has more codeblocks than that
 pub record Settings : Type 0 where
   pub mode : Mode
   pub limit : ℕ
@@ -31,10 +32,19 @@ opening h = record { capacity = h.capacity; finished = h.finished; opened = afte
 
 abbrev pub adding : Showing → Held → List ℕ → Held
 adding showing h octets =
-    record { capacity = h.capacity; finished = h.finished; opened = after_add showing h.capacity h.finished h.opened octets }
+    record {
+      capacity = h.capacity;
+      finished = h.finished;
+      opened = after_add showing h.capacity h.finished h.opened octets;
+    }
 
 abbrev pub finishing : Held → Held
-finishing h = record { capacity = h.capacity; finished = finished_after_finish h.finished h.opened; opened = open_after_finish h.opened }
+finishing h =
+    record {
+      capacity = h.capacity;
+      finished = finished_after_finish h.finished h.opened;
+      opened = open_after_finish h.opened;
+    }
 
 abbrev pub abandoning : Held → Held
 abandoning h = record { capacity = h.capacity; finished = h.finished; opened = None }
@@ -49,8 +59,8 @@ added h = open_codeblocks h.opened
 abbrev pub room : Held → ℕ
 room h = free_space h.capacity h.finished h.opened
 
--- what was read behind a start: how many symbols of the codeblock that is not whole yet, the number that they write with the first
--- of them highest, how many codeblocks were added, and how many of those were corrected
+-- what was read behind a start: how many symbols of the codeblock that is not whole yet, the number that they write
+-- with the first of them highest, how many codeblocks were added, and how many of those were corrected
 pub record Reading : Type 0 where
   pub count : ℕ
   pub word : ℕ
@@ -79,7 +89,8 @@ closing h zero corrections = ends (abandoning h) (report Empty 0 corrections)
 closing h (suc n) corrections = ends (finishing h) (report Closed (suc n) corrections)
 
 -- an accepted codeblock is added, unless as many as the limit are, or the hold is full
-abbrev pub counting_in : Settings → Showing → Held → (codeblocks corrections : ℕ) → (octets : List ℕ) → (corrected : Bool) → Decoded
+abbrev pub counting_in : Settings → Showing → Held → (codeblocks corrections : ℕ) → (octets : List ℕ) →
+    (corrected : Bool) → Decoded
 counting_in settings showing h codeblocks corrections octets corrected =
     cond (nat_le settings.limit codeblocks) (ends (abandoning h) (report Long codeblocks corrections))
     (cond (room h == 0) (ends (abandoning h) (report Full codeblocks corrections))

@@ -20,4 +20,5 @@ reason_word Down = codes "down"
 
 -- the reason, the codeblocks and the corrections
 abbrev pub report_text : Report → List ℕ
-report_text one = reason_word one.reason ++ (codes " " ++ (decimal one.codeblocks ++ (codes " " ++ decimal one.corrections)))
+report_text one =
+    reason_word one.reason ++ (codes " " ++ (decimal one.codeblocks ++ (codes " " ++ decimal one.corrections)))

@@ -1,6 +1,6 @@
--- The rules of reception: what a receiver does at each event, by its settings, its state and what its hold means. They are total: an
--- event that is refused changes nothing. Searching and decoding are apart, each in a file of its own; what becomes of windows and of
--- the state when a start is found or a candidate ends is said here. Assumes nothing.
+-- The rules of reception: what a receiver does at each event, by its settings, its state and what its hold means. They
+-- are total: an event that is refused changes nothing. Searching and decoding are apart, each in a file of its own; what
+-- becomes of windows and of the state when a start is found or a candidate ends is said here. Assumes nothing.
 use Rattle.std.specs.Prelude.{ℕ, Bool, true, false, List, [], ◌∷◌}
 use Rattle.hold.specs.Candidates.{Showing}
 use Rattle.reception.specs.declared.Reason.TheVariants.{Down}
@@ -37,7 +37,7 @@ quietly phase held = record { after = state phase held; reports = [] }
 abbrev pub reporting : Phase → Held → Report → Outcome
 reporting phase held one = record { after = state phase held; reports = one ∷ [] }
 
--- SEARCH always begins with an empty window
+-- a search that begins: its window is empty
 abbrev pub searching : Phase
 searching = SEARCH 0 0
 
@@ -54,7 +54,8 @@ at_decoded (ends h one) = reporting searching h one
 abbrev pub at_symbol : Settings → Showing → Phase → Held → Bool → Outcome
 at_symbol settings showing INACTIVE h b = quietly INACTIVE h
 at_symbol settings showing (SEARCH count window) h b =
-    at_window h (next_count count) (next_window window b) (is_start settings.mode (next_count count) (next_window window b))
+    at_window h (next_count count) (next_window window b)
+    (is_start settings.mode (next_count count) (next_window window b))
 at_symbol settings showing (DECODE r) h b = at_decoded (read_symbol settings showing h r b)
 
 abbrev pub at_up : Phase → Held → Outcome

@@ -32,7 +32,7 @@ CarrierStaysUp (carrier_down ∷ es) = ⊥
 CarrierStaysUp (symbol b ∷ es) = CarrierStaysUp es
 CarrierStaysUp (release ∷ es) = CarrierStaysUp es
 
--- idle: an unbroken run of alternating bits that begins with either bit
+-- so many bits of idle: `first`, its opposite, `first` again and so on
 abbrev pub idle : Bool → ℕ → List Bool
 idle first zero = []
 idle first (suc n) = first ∷ idle (not first) n

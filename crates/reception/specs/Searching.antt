@@ -1,12 +1,13 @@
--- Searching: the window in which a start sequence is looked for. Nothing here knows of codeblocks or of a hold. Assumes nothing.
+-- Searching: the window in which a start sequence is looked for. Nothing here knows of codeblocks or of a hold.
+-- Assumes nothing.
 use Rattle.std.specs.Prelude.{ℕ, suc, ◌+◌, ◌*◌, ◌%◌, ◌^◌, min, Bool, ◌&&◌, ◌==◌, nat_le}
 use Rattle.bch.specs.declared.Mode.{Mode}
 use Rattle.bch.specs.declared.Mode.TheVariants.{Detecting, Correcting}
 use Rattle.bch.specs.Polynomial.{◌⊕◌, weight}
 use Rattle.reception.specs.Symbols.{bit_value}
 
--- the window keeps the last 16 symbols, as a number with the first of them highest; with it goes how many symbols entered,
--- up to 16
+-- the window keeps the last 16 symbols, as a number with the first of them highest; with it goes how many symbols
+-- entered, up to 16
 abbrev pub next_count : ℕ → ℕ
 next_count count = min 16 (suc count)
 

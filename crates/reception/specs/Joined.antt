@@ -1,0 +1,33 @@
+-- A run of events, and one behind it, are one run: so a caller puts together what he knows of each. Assumes nothing.
+use Rattle.std.specs.Prelude.{◌≡◌, ◌+◌, Bool, List, ◌++◌}
+use Rattle.hold.specs.Candidates.{Showing}
+use Rattle.reception.specs.Decoding.{Settings}
+use Rattle.reception.specs.Rules.{State, Event}
+use Rattle.reception.specs.Runs.{after_events, reports_of, symbols_in, CarrierStaysUp}
+use Rattle.reception.specs.Calls.{symbol_events}
+use Rattle.reception.specs.Finished.{new_candidates, releases_accepted}
+use Rattle.reception.specs.Gaps.{CarrierStaysDown}
+
+pub record RunsAreJoined (settings : Settings) (showing : Showing) : Type 0 where
+  pub state : (s : State) (first then : List Event) →
+      after_events settings showing s (first ++ then)
+      ≡ after_events settings showing (after_events settings showing s first) then
+  pub reports : (s : State) (first then : List Event) →
+      reports_of settings showing s (first ++ then)
+      ≡ reports_of settings showing s first
+      ++ reports_of settings showing (after_events settings showing s first) then
+  pub candidates : (s : State) (first then : List Event) →
+      new_candidates settings showing s (first ++ then)
+      ≡ new_candidates settings showing s first
+      ++ new_candidates settings showing (after_events settings showing s first) then
+  pub releases : (s : State) (first then : List Event) →
+      releases_accepted settings showing s (first ++ then)
+      ≡ releases_accepted settings showing s first
+      + releases_accepted settings showing (after_events settings showing s first) then
+  pub symbols : (first then : List Event) → symbols_in (first ++ then) ≡ symbols_in first ++ symbols_in then
+  pub up : (first then : List Event) → CarrierStaysUp first → CarrierStaysUp then → CarrierStaysUp (first ++ then)
+  pub down : (first then : List Event) →
+      CarrierStaysDown first → CarrierStaysDown then → CarrierStaysDown (first ++ then)
+  -- a symbols call has its symbols, and leaves the carrier up
+  pub symbols_called : (bits : List Bool) → symbols_in (symbol_events bits) ≡ bits
+  pub up_called : (bits : List Bool) → CarrierStaysUp (symbol_events bits)
