@@ -35,7 +35,8 @@ module _ {X : Type 0} (hold : Ghosts X) where
 
   -- the receiver, and what its hold means, after a call
   pub record Called (call : Call) (before after : Receiver X) : Type 0 where
-    pub state : state_of hold after ≡ after_call (rules_of (settings_of before)) hold.showing (state_of hold before) call
+    pub state :
+        state_of hold after ≡ after_call (rules_of (settings_of before)) hold.showing (state_of hold before) call
     pub settings : settings_of after ≡ settings_of before
     pub lost : lost_of after ≡ lost_after (free_in call) (lost_of before) (reports_made before call)
     pub came : (over : Held) (calls : List Call) → CameBy over calls before → CameBy over (call ∷ calls) after

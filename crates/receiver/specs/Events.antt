@@ -48,7 +48,9 @@ module _ {X : Type 0} (hold : Ghosts X) where
 
   -- the receiver after events, whose reports are not told yet
   pub record ComesTo (events : List Event) (before after : Receiver X) : Type 0 where
-    pub state : state_of hold after ≡ after_events (rules_of (settings_of before)) hold.showing (state_of hold before) events
+    pub state :
+        state_of hold after
+        ≡ after_events (rules_of (settings_of before)) hold.showing (state_of hold before) events
     pub settings : settings_of after ≡ settings_of before
     pub lost : lost_of after ≡ lost_of before
 
@@ -61,7 +63,9 @@ module _ {X : Type 0} (hold : Ghosts X) where
 
   -- the receiver and the caller's queue after events
   pub record Ran (events : List Event) (before after : Receiver X) (queue later : Queue Report) : Type 0 where
-    pub state : state_of hold after ≡ after_events (rules_of (settings_of before)) hold.showing (state_of hold before) events
+    pub state :
+        state_of hold after
+        ≡ after_events (rules_of (settings_of before)) hold.showing (state_of hold before) events
     pub settings : settings_of after ≡ settings_of before
     pub lost : lost_of after ≡ lost_after (free_slots queue) (lost_of before) (reports_at before events)
     pub queued : Queued (reports_at before events) queue later

@@ -1,4 +1,5 @@
--- What a receiver means: a state of the rules of reception, with what it is set to and how many reports were lost. Assumes nothing.
+-- What a receiver means: a state of the rules of reception, with what it is set to and how many reports were lost.
+-- Assumes nothing.
 use Rattle.std.specs.Prelude.{ℕ, List, length}
 use Rattle.hold.specs.declared.Hold.{Ghosts}
 use Rattle.queue.specs.declared.slots.Queue.{Queue}

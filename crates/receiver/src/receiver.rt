@@ -65,9 +65,11 @@ impl<H: Hold> Receiver<H> {
     /// Carrier down: the receiver is INACTIVE. An open candidate is abandoned, and the report of it goes
     /// into the queue or, where that is full, is lost. Refused with 6 where the receiver is INACTIVE.
     pub fn carrier_down(&mut self, reports: &mut Queue<'_, Report>) -> Result<(), Refusal>
-        ensures answer { result ≡ answered (refusal (state_of H.Hold self.old) (call_down (free_slots reports.old))) tt }
+        ensures answer { result
+            ≡ answered (refusal (state_of H.Hold self.old) (call_down (free_slots reports.old))) tt }
         ensures after { Called H.Hold (call_down (free_slots reports.old)) self.old self.new }
-        ensures queued { Queued (reports_made H.Hold self.old (call_down (free_slots reports.old))) reports.old reports.new }
+        ensures queued { Queued (reports_made H.Hold self.old (call_down (free_slots reports.old)))
+            reports.old reports.new }
         ensures refused { OnErr result ((self.new ≡ self.old) × (reports.new ≡ reports.old)) }
     {
         self.take_event(Event::CarrierDown, reports)?;
@@ -82,9 +84,12 @@ impl<H: Hold> Receiver<H> {
         symbols: &[S],
         reports: &mut Queue<'_, Report>,
     ) -> Result<usize, Refusal>
-        ensures answer { result ≡ answered (refusal (state_of H.Hold self.old) (symbols_call S.Symbol symbols.now reports.old)) (length (reports_made H.Hold self.old (symbols_call S.Symbol symbols.now reports.old))) }
+        ensures answer { result
+            ≡ answered (refusal (state_of H.Hold self.old) (symbols_call S.Symbol symbols.now reports.old))
+            (length (reports_made H.Hold self.old (symbols_call S.Symbol symbols.now reports.old))) }
         ensures after { Called H.Hold (symbols_call S.Symbol symbols.now reports.old) self.old self.new }
-        ensures queued { Queued (reports_made H.Hold self.old (symbols_call S.Symbol symbols.now reports.old)) reports.old reports.new }
+        ensures queued { Queued (reports_made H.Hold self.old (symbols_call S.Symbol symbols.now reports.old))
+            reports.old reports.new }
         ensures refused { OnErr result ((self.new ≡ self.old) × (reports.new ≡ reports.old)) }
     {
         self.at_event(Event::Symbols)?;
@@ -223,7 +228,9 @@ impl<H: Hold> Receiver<H> {
     // A symbol in SEARCH, with this window so far.
     // The phase is written in each branch: chosen first and then moved, it goes through memory.
     fn search(&mut self, window: Window, bit: bool)
-        ensures outcome { quietly (state_of H.Hold self.new).phase (held_by H.Hold self.new) ≡ at_symbol (rules_of (settings_of self.old)) H.Hold.showing (SEARCH (entered window) (last_bits window)) (held_by H.Hold self.old) bit }
+        ensures outcome { quietly (state_of H.Hold self.new).phase (held_by H.Hold self.new)
+            ≡ at_symbol (rules_of (settings_of self.old)) H.Hold.showing
+            (SEARCH (entered window) (last_bits window)) (held_by H.Hold self.old) bit }
         ensures settings { settings_of self.new ≡ settings_of self.old }
         ensures lost { lost_of self.new ≡ lost_of self.old }
     {
