@@ -5,7 +5,8 @@ use Rattle.hold.specs.Candidates.{Candidate, Showing, finished_codeblocks, after
 use Rattle.reception.specs.Symbols.{bit_value}
 use Rattle.reception.specs.Decoding.{Settings, Held, releasing, Reading, decoded, with_symbol, read_word}
 use Rattle.reception.specs.Rules.{DECODE, State, state, Event, carrier_up, carrier_down, symbol, release, Outcome, at_decoded, at_event}
-use Rattle.reception.specs.Runs.{after_events, symbols_in, CarrierStaysUp}
+use Rattle.reception.specs.declared.Report.{Report}
+use Rattle.reception.specs.Runs.{after_events, reports_of, symbols_in, CarrierStaysUp}
 use Rattle.reception.specs.Allowance.{value_from}
 use Rattle.reception.specs.Finished.{announced, new_candidates}
 
@@ -71,18 +72,29 @@ module _ (settings : Settings) (showing : Showing) where
       ap (λ l. announced s.held.opened (at_event settings showing s e).reports ++ l) (new_append es fs (at_event settings showing s e).after)
       ∙ sym (append_assoc (announced s.held.opened (at_event settings showing s e).reports) (new_candidates settings showing (at_event settings showing s e).after es) (new_candidates settings showing (after_events settings showing s (e ∷ es)) fs))
 
-  -- a run of events from one state to another, which announces these candidates
-  pub record Goes (s : State) (es : List Event) (t : State) (new : List Candidate) : Type 0 where
+  pub reports_append : (es fs : List Event) (s : State) →
+      reports_of settings showing s (es ++ fs) ≡ reports_of settings showing s es ++ reports_of settings showing (after_events settings showing s es) fs
+  reports_append [] fs s = refl
+  reports_append (e ∷ es) fs s =
+      let next = (at_event settings showing s e).after in
+      ap (λ l. (at_event settings showing s e).reports ++ l) (reports_append es fs next)
+      ∙ sym (append_assoc (at_event settings showing s e).reports (reports_of settings showing next es) (reports_of settings showing (after_events settings showing next es) fs))
+
+  -- a run of events from one state to another, which announces these candidates and makes these reports
+  pub record Goes (s : State) (es : List Event) (t : State) (new : List Candidate) (told : List Report) : Type 0 where
     pub after : after_events settings showing s es ≡ t
     pub news : new_candidates settings showing s es ≡ new
+    pub reports : reports_of settings showing s es ≡ told
 
   -- two runs, one behind the other, of events that are theirs together
-  pub goes_then : {s t u : State} {es fs gs : List Event} {xs ys : List Candidate} → es ≡ fs ++ gs → Goes s fs t xs → Goes t gs u ys → Goes s es u (xs ++ ys)
-  goes_then {s} {t} {u} {es} {fs} {gs} {xs} {ys} whole first second =
+  pub goes_then : {s t u : State} {es fs gs : List Event} {xs ys : List Candidate} {rs qs : List Report} → es ≡ fs ++ gs → Goes s fs t xs rs → Goes t gs u ys qs → Goes s es u (xs ++ ys) (rs ++ qs)
+  goes_then {s} {t} {u} {es} {fs} {gs} {xs} {ys} {rs} {qs} whole first second =
       record {
         after = ap (after_events settings showing s) whole ∙ after_append fs gs s ∙ ap (λ v. after_events settings showing v gs) first.after ∙ second.after;
         news = ap (new_candidates settings showing s) whole ∙ new_append fs gs s
             ∙ ap₂ ◌++◌ first.news (ap (λ v. new_candidates settings showing v gs) first.after ∙ second.news);
+        reports = ap (reports_of settings showing s) whole ∙ reports_append fs gs s
+            ∙ ap₂ ◌++◌ first.reports (ap (λ v. reports_of settings showing v gs) first.after ∙ second.reports);
       }
 
   -- a codeblock's symbols, from where the word stands, in a candidate of n codeblocks with k corrected
@@ -94,6 +106,7 @@ module _ (settings : Settings) (showing : Showing) where
     pub released : Released h hold
     pub after : after_events settings showing (state (DECODE r) h) es ≡ (at_whole hold r.codeblocks r.corrections (value_from r.word xs)).after
     pub new : new_candidates settings showing (state (DECODE r) h) es ≡ announced hold.opened (at_whole hold r.codeblocks r.corrections (value_from r.word xs)).reports
+    pub told : reports_of settings showing (state (DECODE r) h) es ≡ (at_whole hold r.codeblocks r.corrections (value_from r.word xs)).reports
 
   abbrev WholeWord : (h : Held) (r : Reading) (b : Bool) → Bool → Type 0
   WholeWord h r b whole = at_event settings showing (state (DECODE r) h) (symbol b) ≡ at_decoded (read_word settings showing h (with_symbol r b) whole)
@@ -109,14 +122,14 @@ module _ (settings : Settings) (showing : Showing) where
   word_comes (x ∷ xs) [] h r b some all = absurd b
   word_comes (x ∷ xs) (carrier_up ∷ es) h r b some all =
       let w = word_comes (x ∷ xs) es h r b some all in
-      record { hold = w.hold; released = w.released; after = w.after; new = w.new }
+      record { hold = w.hold; released = w.released; after = w.after; new = w.new; told = w.told }
   word_comes (x ∷ xs) (carrier_down ∷ es) h r b some all = absurd b
   word_comes (x ∷ xs) (release ∷ es) h r b some all =
       let w = word_comes (x ∷ xs) es (releasing h) r b some all in
-      record { hold = w.hold; released = released_more w.released; after = w.after; new = w.new }
+      record { hold = w.hold; released = released_more w.released; after = w.after; new = w.new; told = w.told }
   word_comes (x ∷ []) (symbol y ∷ []) h r b some all =
       let o = at_last h r y all ∙ ap (λ z. at_whole h r.codeblocks r.corrections (2 * r.word + bit_value z)) b.0 in
-      record { hold = h; released = released_none h; after = ap (λ u. u.after) o; new = append-nil _ ∙ ap (λ u. announced h.opened u.reports) o }
+      record { hold = h; released = released_none h; after = ap (λ u. u.after) o; new = append-nil _ ∙ ap (λ u. announced h.opened u.reports) o; told = append-nil _ ∙ ap (λ u. u.reports) o }
   word_comes (x ∷ []) (symbol y ∷ e ∷ es) h r b some all = absurd b.1
   word_comes (x ∷ z ∷ zs) (symbol y ∷ es) h r b some all =
       let o = not_at_last h r y (length zs) all in
@@ -127,6 +140,7 @@ module _ (settings : Settings) (showing : Showing) where
         released = w.released;
         after = ap (λ u. after_events settings showing u.after es) o ∙ w.after ∙ ap (λ v. (at_whole w.hold r.codeblocks r.corrections v).after) same;
         new = ap (λ u. announced h.opened u.reports ++ new_candidates settings showing u.after es) o ∙ w.new ∙ ap (λ v. announced w.hold.opened (at_whole w.hold r.codeblocks r.corrections v).reports) same;
+        told = ap (λ u. u.reports ++ reports_of settings showing u.after es) o ∙ w.told ∙ ap (λ v. (at_whole w.hold r.codeblocks r.corrections v).reports) same;
       }
 
 pub record Parted (xs ys : List Bool) (es : List Event) : Type 0 where

@@ -1,14 +1,14 @@
 -- A run of events, and one behind it, are one run. Assumes nothing.
-use Rattle.std.proofs.Common.{◌≡◌, ◌+◌, List, [], ◌∷◌, ◌++◌, Bool, sym, refl, ap, ◌∙◌, append_assoc, arith}
+use Rattle.std.proofs.Common.{◌≡◌, ◌+◌, List, [], ◌∷◌, ◌++◌, Bool, refl, ap, arith}
 use Rattle.hold.specs.Candidates.{Showing}
 use Rattle.reception.specs.Decoding.{Settings}
 use Rattle.reception.specs.Rules.{State, Event, carrier_up, carrier_down, symbol, release, at_event}
-use Rattle.reception.specs.Runs.{after_events, reports_of, symbols_in, CarrierStaysUp}
+use Rattle.reception.specs.Runs.{after_events, symbols_in, CarrierStaysUp}
 use Rattle.reception.specs.Calls.{symbol_events}
 use Rattle.reception.specs.Finished.{releases_accepted}
 use Rattle.reception.specs.Gaps.{CarrierStaysDown}
 use Rattle.reception.specs.Joined.{RunsAreJoined}
-use Rattle.reception.proofs.Brings.{after_append, new_append}
+use Rattle.reception.proofs.Brings.{after_append, new_append, reports_append}
 
 symbols_append : (es fs : List Event) → symbols_in (es ++ fs) ≡ symbols_in es ++ symbols_in fs
 symbols_append [] fs = refl
@@ -40,14 +40,6 @@ up_called [] = tt
 up_called (b ∷ bits) = up_called bits
 
 module _ (settings : Settings) (showing : Showing) where
-  reports_append : (es fs : List Event) (s : State) →
-      reports_of settings showing s (es ++ fs) ≡ reports_of settings showing s es ++ reports_of settings showing (after_events settings showing s es) fs
-  reports_append [] fs s = refl
-  reports_append (e ∷ es) fs s =
-      let next = (at_event settings showing s e).after in
-      ap (λ l. (at_event settings showing s e).reports ++ l) (reports_append es fs next)
-      ∙ sym (append_assoc (at_event settings showing s e).reports (reports_of settings showing next es) (reports_of settings showing (after_events settings showing next es) fs))
-
   releases_append : (es fs : List Event) (s : State) →
       releases_accepted settings showing s (es ++ fs) ≡ releases_accepted settings showing s es + releases_accepted settings showing (after_events settings showing s es) fs
   releases_append [] fs s = omega arith
@@ -57,7 +49,7 @@ module _ (settings : Settings) (showing : Showing) where
   runs_are_joined =
       record {
         state = λ s first then. after_append settings showing first then s;
-        reports = λ s first then. reports_append first then s;
+        reports = λ s first then. reports_append settings showing first then s;
         candidates = λ s first then. new_append settings showing first then s;
         releases = λ s first then. releases_append first then s;
         symbols = symbols_append;

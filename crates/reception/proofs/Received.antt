@@ -15,8 +15,8 @@ use Rattle.reception.specs.Symbols.{bit_value}
 use Rattle.reception.specs.Searching.{next_count, next_window, is_start, start_tolerance}
 use Rattle.reception.specs.Decoding.{Settings, Held, opening, adding, abandoning, releasing, added, room, reading, begun, goes_on, ends, counting_in, decoded_by, decoded, report}
 use Rattle.reception.specs.Rules.{SEARCH, DECODE, state, Event, carrier_up, carrier_down, symbol, release, at_window, at_decoded, quietly}
-use Rattle.reception.specs.Runs.{after_events}
-use Rattle.reception.specs.Allowance.{value_from, value, block_tolerance, BlocksWithin}
+use Rattle.reception.specs.Runs.{after_events, reports_of}
+use Rattle.reception.specs.Allowance.{value_from, value, block_tolerance, BlocksWithin, wrong_in}
 use Rattle.reception.specs.Finished.{announced, new_candidates}
 use Rattle.reception.proofs.Decoding.{seven_more, length_shown_from}
 use Rattle.reception.proofs.Windows.{not_yet_full}
@@ -46,7 +46,7 @@ module _ (settings : Settings) (showing : Showing) where
   pub record Started (h : Held) (count window : ℕ) (es : List Event) : Type 0 where
     pub hold : Held
     pub released : Released h hold
-    pub goes : Goes settings showing (state (SEARCH count window) h) es (state (DECODE begun) (opening hold)) []
+    pub goes : Goes settings showing (state (SEARCH count window) h) es (state (DECODE begun) (opening hold)) [] []
 
   module _ (b : Bool) (r c : ℕ) (small : r < 2 ^ 16) (right : weight 16 (r ⊕ 0xEB90) ≤ start_tolerance M) where
     found_at_last : (i p count window : ℕ) (x : Bool) → i + 1 ≡ 16 → count ≡ min 16 (c + i) → 2 * p + bit_value x ≡ r → Follows b i (min c (16 - i)) p window →
@@ -79,14 +79,14 @@ module _ (settings : Settings) (showing : Showing) where
     start_comes (x ∷ xs) [] h i p count window br some long counted all f = absurd br
     start_comes (x ∷ xs) (carrier_up ∷ es) h i p count window br some long counted all f =
         let w = start_comes (x ∷ xs) es h i p count window br some long counted all f in
-        record { hold = w.hold; released = w.released; goes = record { after = w.goes.after; news = w.goes.news } }
+        record { hold = w.hold; released = w.released; goes = record { after = w.goes.after; news = w.goes.news; reports = w.goes.reports } }
     start_comes (x ∷ xs) (carrier_down ∷ es) h i p count window br some long counted all f = absurd br
     start_comes (x ∷ xs) (release ∷ es) h i p count window br some long counted all f =
         let w = start_comes (x ∷ xs) es (releasing h) i p count window br some long counted all f in
-        record { hold = w.hold; released = released_more w.released; goes = record { after = w.goes.after; news = w.goes.news } }
+        record { hold = w.hold; released = released_more w.released; goes = record { after = w.goes.after; news = w.goes.news; reports = w.goes.reports } }
     start_comes (x ∷ []) (symbol y ∷ []) h i p count window br some long counted all f =
         let o = ap (λ v. at_window h (next_count count) (next_window window v) (is_start M (next_count count) (next_window window v))) br.0 ∙ ap (at_window h (next_count count) (next_window window x)) (found_at_last i p count window x long counted all f) in
-        record { hold = h; released = released_none h; goes = record { after = ap (λ u. u.after) o; news = append-nil _ ∙ ap (λ u. announced h.opened u.reports) o } }
+        record { hold = h; released = released_none h; goes = record { after = ap (λ u. u.after) o; news = append-nil _ ∙ ap (λ u. announced h.opened u.reports) o; reports = append-nil _ ∙ ap (λ u. u.reports) o } }
     start_comes (x ∷ []) (symbol y ∷ e ∷ es) h i p count window br some long counted all f = absurd br.1
     start_comes (x ∷ z ∷ zs) (symbol y ∷ es) h i p count window br some long counted all f =
         let o = ap (λ v. at_window h (next_count count) (next_window window v) (is_start M (next_count count) (next_window window v))) br.0 ∙ ap (at_window h (next_count count) (next_window window x)) (not_found_before i p count window x (z ∷ zs) (omega arith) long counted all f) in
@@ -98,6 +98,7 @@ module _ (settings : Settings) (showing : Showing) where
               record {
                 after = ap (λ u. after_events settings showing u.after es) o ∙ w.goes.after;
                 news = ap (λ u. announced h.opened u.reports ++ new_candidates settings showing u.after es) o ∙ w.goes.news;
+                reports = ap (λ u. u.reports ++ reports_of settings showing u.after es) o ∙ w.goes.reports;
               };
         }
 
@@ -129,24 +130,26 @@ module _ (settings : Settings) (showing : Showing) where
       ap₂ (λ (many full : Bool). cond many (ends (abandoning g) (report Long n k)) (cond full (ends (abandoning g) (report Full n k)) (goes_on (adding showing g octets) (reading 0 0 (suc n) (k + bit_value c)))))
       (lt-leb settings.limit n few) (ne_eqb (room g) 0 (λ z. omega arith))
 
-  -- m codeblocks more in a candidate of n, k of them corrected
-  pub record BlocksIn (h : Held) (n m k : ℕ) (candidate : Candidate) (octets : List ℕ) (es : List Event) : Type 0 where
+  -- m codeblocks more in a candidate of n, k of them corrected, with so many wrong bits
+  pub record BlocksIn (h : Held) (n m k wrong : ℕ) (candidate : Candidate) (octets : List ℕ) (es : List Event) : Type 0 where
     pub hold : Held
     pub codeblocks : ℕ
     pub corrections : ℕ
     pub counted : codeblocks ≡ n + m
-    pub goes : Goes settings showing (state (DECODE (reading 0 0 n k)) h) es (state (DECODE (reading 0 0 codeblocks corrections)) hold) []
+    pub corrected : corrections ≡ k + wrong
+    pub goes : Goes settings showing (state (DECODE (reading 0 0 n k)) h) es (state (DECODE (reading 0 0 codeblocks corrections)) hold) [] []
     pub opened : hold.opened ≡ Some (candidate ++ shown_from showing (length candidate) octets)
 
-  blocks_none : (h : Held) (n k : ℕ) (candidate : Candidate) (octets : List ℕ) (es : List Event) → h.opened ≡ Some candidate → octets ≡ [] → es ≡ [] → BlocksIn h n 0 k candidate octets es
+  blocks_none : (h : Held) (n k : ℕ) (candidate : Candidate) (octets : List ℕ) (es : List Event) → h.opened ≡ Some candidate → octets ≡ [] → es ≡ [] → BlocksIn h n 0 k 0 candidate octets es
   blocks_none h n k candidate octets es opened no-octets no-events =
-      subst (λ l. BlocksIn h n 0 k candidate octets l) (sym no-events)
+      subst (λ l. BlocksIn h n 0 k 0 candidate octets l) (sym no-events)
       (record {
         hold = h;
         codeblocks = n;
         corrections = k;
         counted = omega arith;
-        goes = record { after = refl; news = refl };
+        corrected = omega arith;
+        goes = record { after = refl; news = refl; reports = refl };
         opened = opened ∙ ap Some (sym (ap (λ l. candidate ++ shown_from showing (length candidate) l) no-octets ∙ append-nil candidate));
       })
 
@@ -157,9 +160,10 @@ module _ (settings : Settings) (showing : Showing) where
   block_added : (block : List Bool) (octets : List ℕ) (m : ℕ) (h g : Held) (n k : ℕ) → length block ≡ 64 → wrong_bits (sent (take 7 octets)) (value block) ≤ block_tolerance M → AllBelowBase 256 octets →
       7 * suc m ≡ length octets → n + suc m ≤ settings.limit → suc m ≤ room h → Released h g →
       (c : Bool) × (at_decoded (decoded settings showing g n k (value block)) ≡ quietly (DECODE (reading 0 0 (suc n) (k + bit_value c))) (adding showing g (take 7 octets)))
+      × (bit_value c ≡ wrong_bits (sent (take 7 octets)) (value block))
   block_added block octets m h g n k long few octet all limit free released =
       let v = accepted_within M (take 7 octets) (seven_long octets m all, All-take (λ x. x < 256) 7 octets octet) (value block) (value_below block 64 long) few in
-      (v.0, ap (λ w. at_decoded (decoded_by settings showing g n k w)) v.1 ∙ ap at_decoded (accepted_goes_on g n k (take 7 octets) v.0 (omega arith) (omega (arith, room_kept h g released))))
+      (v.0, ap (λ w. at_decoded (decoded_by settings showing g n k w)) v.1 ∙ ap at_decoded (accepted_goes_on g n k (take 7 octets) v.0 (omega arith) (omega (arith, room_kept h g released))), v.2)
 
   -- what the rest needs
   added_more : (g : Held) (candidate : Candidate) (octets : List ℕ) → g.opened ≡ Some candidate → length octets ≡ 7 → 1 ≤ room g →
@@ -173,7 +177,7 @@ module _ (settings : Settings) (showing : Showing) where
 
   pub blocks_come : (blocks : List (List Bool)) (octets : List ℕ) (es : List Event) (h : Held) (n k : ℕ) (candidate : Candidate) → Brings (flat_map (λ block. block) blocks) es → BlocksWithin M octets blocks → AllBelowBase 256 octets →
       7 * length blocks ≡ length octets → n + length blocks ≤ settings.limit → length blocks ≤ room h → h.opened ≡ Some candidate →
-      BlocksIn h n (length blocks) k candidate octets es
+      BlocksIn h n (length blocks) k (wrong_in octets blocks) candidate octets es
   blocks_come [] octets es h n k candidate br within octet all limit free opened = blocks_none h n k candidate octets es opened (nil_from_length octets (omega arith)) (brings_nothing es br)
   blocks_come (block ∷ blocks) octets es h n k candidate br within octet all limit free opened =
       let p = part es block (flat_map (λ b. b) blocks) br in
@@ -191,8 +195,9 @@ module _ (settings : Settings) (showing : Showing) where
         codeblocks = rest.codeblocks;
         corrections = rest.corrections;
         counted = omega (arith, rest.counted);
+        corrected = omega (arith, rest.corrected, one.2);
         goes = goes_then settings showing {fs = p.front} {gs = p.back} p.whole
-            (record { after = w.after ∙ ap (λ u. u.after) one.1; news = w.new ∙ ap (λ u. announced g.opened u.reports) one.1 }) rest.goes;
+            (record { after = w.after ∙ ap (λ u. u.after) one.1; news = w.new ∙ ap (λ u. announced g.opened u.reports) one.1; reports = w.told ∙ ap (λ u. u.reports) one.1 }) rest.goes;
         opened = rest.opened ∙ ap Some (append_assoc candidate (shown_from showing (length candidate) seven) _ ∙ ap (λ l. candidate ++ l)
             (ap (λ n. shown_from showing (length candidate) seven ++ shown_from showing n (drop 7 octets)) (length-append candidate (shown_from showing (length candidate) seven) ∙ ap (λ n. length candidate + n) (length_shown_from showing (length candidate) seven))
             ∙ sym (shown_append (length candidate) seven (drop 7 octets)) ∙ ap (shown_from showing (length candidate)) (take-append-drop 7 octets)));

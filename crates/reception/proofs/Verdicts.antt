@@ -26,13 +26,15 @@ value_from_below (b ∷ bs) n w h =
 pub value_below : (bits : List Bool) (n : ℕ) → length bits ≡ n → value bits < 2 ^ n
 value_below bits n e = let all : 0 + length bits ≡ n = omega arith in subst (λ k. value bits < 2 ^ k) all (value_from_below bits 0 0 (omega arith))
 
-pub accepted_within : (mode : Mode) (information : List ℕ) → Information information → (word : ℕ) → word < 2 ^ 64 → wrong_bits (sent information) word ≤ block_tolerance mode → (c : Bool) × (verdict mode word ≡ accepted information c)
-accepted_within Detecting information i word w few = (false, undamaged_is_accepted Detecting word w information i (omega arith))
+pub accepted_within : (mode : Mode) (information : List ℕ) → Information information → (word : ℕ) → word < 2 ^ 64 → wrong_bits (sent information) word ≤ block_tolerance mode →
+    (c : Bool) × (verdict mode word ≡ accepted information c) × (bit_value c ≡ wrong_bits (sent information) word)
+accepted_within Detecting information i word w few = (false, undamaged_is_accepted Detecting word w information i (omega arith), omega arith)
 accepted_within Correcting information i word w few = by (wrong_bits (sent information) word) refl few
   where
-    by : (n : ℕ) → wrong_bits (sent information) word ≡ n → n ≤ 1 → (c : Bool) × (verdict Correcting word ≡ accepted information c)
-    by zero e few = (false, undamaged_is_accepted Correcting word w information i e)
-    by (suc zero) e few = (true, one_wrong_bit_is_corrected Correcting word w information i refl e)
+    by : (n : ℕ) → wrong_bits (sent information) word ≡ n → n ≤ 1 →
+        (c : Bool) × (verdict Correcting word ≡ accepted information c) × (bit_value c ≡ wrong_bits (sent information) word)
+    by zero e few = (false, undamaged_is_accepted Correcting word w information i e, sym e)
+    by (suc zero) e few = (true, one_wrong_bit_is_corrected Correcting word w information i refl e, sym e)
     by (suc (suc n)) e few = absurd (omega arith)
 
 -- the tail sequence, with the bits of a pattern turned

@@ -49,6 +49,11 @@ BlocksWithin mode octets (block ∷ blocks) =
     (length block ≡ 64) × (wrong_bits (sent (take 7 octets)) (value block) ≤ block_tolerance mode)
     × BlocksWithin mode (drop 7 octets) blocks
 
+-- how many of these bits are wrong, the 64th of each codeblock left out
+abbrev pub wrong_in : List ℕ → List (List Bool) → ℕ
+wrong_in octets [] = 0
+wrong_in octets (block ∷ blocks) = wrong_bits (sent (take 7 octets)) (value block) + wrong_in (drop 7 octets) blocks
+
 -- of the CLTU whose information is these octets
 pub record WithinAllowance (settings : Settings) (octets : List ℕ) (cltu : ReceivedCltu) : Type 0 where
   pub start_long : length cltu.start ≡ 16

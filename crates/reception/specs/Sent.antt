@@ -7,10 +7,12 @@ use Rattle.randomizer.specs.declared.Randomizer.{Randomizer}
 use Rattle.randomizer.specs.Sequence.{randomized}
 use Rattle.cltu.specs.Cltu.{codeblocks_for, filled, cltu}
 use Rattle.hold.specs.Candidates.{Showing, shown_from, Matches}
-use Rattle.reception.specs.Decoding.{Settings, Held, room}
+use Rattle.reception.specs.declared.Reason.TheVariants.{Closed}
+use Rattle.reception.specs.declared.Report.{Report}
+use Rattle.reception.specs.Decoding.{Settings, Held, room, report}
 use Rattle.reception.specs.Rules.{State, Event, made}
-use Rattle.reception.specs.Runs.{after_events, symbols_in, CarrierStaysUp, Clear}
-use Rattle.reception.specs.Allowance.{ReceivedCltu, symbols_of, WithinAllowance}
+use Rattle.reception.specs.Runs.{after_events, reports_of, symbols_in, CarrierStaysUp, Clear}
+use Rattle.reception.specs.Allowance.{ReceivedCltu, symbols_of, wrong_in, WithinAllowance}
 use Rattle.reception.specs.Finished.{new_candidates}
 use Rattle.reception.specs.Gaps.{IdleOrNothing, CarrierBreak}
 
@@ -28,6 +30,11 @@ information_sent randomizer t = randomized randomizer (filled t.frame)
 -- what a hold with this showing makes of a frame as its sender randomized it
 abbrev pub as_shown : Showing → Randomizer → List ℕ → List ℕ
 as_shown showing randomizer frame = shown_from showing 0 (randomized randomizer (filled frame))
+
+-- how it is reported: closed, with its codeblocks, and with as many corrections as bits of them arrived wrong
+abbrev pub told_of : Randomizer → Transmission → Report
+told_of randomizer t =
+    report Closed (length t.received.blocks) (wrong_in (information_sent randomizer t) t.received.blocks)
 
 abbrev pub events_of : List Transmission → List Event
 events_of [] = []
@@ -66,6 +73,14 @@ module _ (settings : Settings) (showing : Showing) (randomizer : Randomizer) whe
       × (new_candidates settings showing then (events_of sent) ≡ map (λ t. as_shown showing randomizer t.frame) sent)
       × (Matches showing randomizer →
       new_candidates settings showing then (events_of sent) ≡ map (λ t. filled t.frame) sent)
+
+  -- and nothing is reported but each of these CLTUs, in order
+  abbrev pub WhatIsReceivedIsReported : Type 0
+  WhatIsReceivedIsReported =
+      (hold : Held) (earlier : List Event) (sent : List Transmission) →
+      let then = after_events settings showing (made hold) earlier in
+      Clear then.phase then.held → SentFrom then sent →
+      reports_of settings showing then (events_of sent) ≡ map (told_of randomizer) sent
 
   -- a frame that has space and whose CLTU is received as it was sent comes out again: itself and its fill, no more
   abbrev pub UndamagedComesBack : Type 0
