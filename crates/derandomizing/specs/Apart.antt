@@ -26,8 +26,8 @@ module _ (below : Showing) where
         octets = λ place x h. law.octets place (added place x) (below_256 place x h);
         apart = λ place x y hx hy e.
             let s = sequence_octet place in
-            let same =
-                law.apart place (added place x) (added place y) (below_256 place x hx) (below_256 place y hy) e
-            in
+            let fx = below_256 place x hx in
+            let fy = below_256 place y hy in
+            let same = law.apart place (added place x) (added place y) fx fy e in
             sym (twice x s) ∙ ap (λ z. bit_xor z s) same ∙ twice y s;
       }
