@@ -7,7 +7,8 @@ abbrev pub bit_at : (d octet : ℕ) → Bool
 bit_at d octet = octet / 2 ^ d % 2 == 1
 
 abbrev pub octet_bits : ℕ → List Bool
-octet_bits x = bit_at 7 x ∷ bit_at 6 x ∷ bit_at 5 x ∷ bit_at 4 x ∷ bit_at 3 x ∷ bit_at 2 x ∷ bit_at 1 x ∷ bit_at 0 x ∷ []
+octet_bits x =
+    bit_at 7 x ∷ bit_at 6 x ∷ bit_at 5 x ∷ bit_at 4 x ∷ bit_at 3 x ∷ bit_at 2 x ∷ bit_at 1 x ∷ bit_at 0 x ∷ []
 
 abbrev pub bits_of : List ℕ → List Bool
 bits_of octets = flat_map octet_bits octets

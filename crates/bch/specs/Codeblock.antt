@@ -1,4 +1,5 @@
--- A codeblock: 56 information bits, seven check bits and a filler bit 0. Bits are taken as numbers, the first bit the highest. Assumes nothing.
+-- A codeblock: seven octets of information, and an octet of their seven check bits and the filler, a bit that is 0.
+-- Bits are taken as numbers, the first bit the highest. Assumes nothing.
 use Rattle.std.specs.Prelude.{◌≡◌, ℕ, ◌*◌, ◌/◌, ◌%◌, ◌^◌, List, [], ◌∷◌, ◌++◌, length}
 use Rattle.std.specs.Int.Digits.{number_from_digits, AllBelowBase}
 use Rattle.bch.specs.Polynomial.{◌⊕◌, remainder}

@@ -1,5 +1,5 @@
--- What the code promises of an answer to a received word of 64 bits: over every information that may have been sent and every place of
--- the wrong bits, and of the filler. Assumes nothing.
+-- What the code promises of an answer to a received word of 64 bits: over every information that may have been sent and
+-- every place of the wrong bits, and of the filler. Assumes nothing.
 use Rattle.std.specs.Prelude.{◌≡◌, ℕ, ◌/◌, ◌<◌, true, false, ◌≢◌, ◌⊎◌, List, is_some, Some, None, Option, nat_lt}
 use Rattle.bch.specs.declared.Mode.{Mode}
 use Rattle.bch.specs.declared.Mode.TheVariants.{Detecting, Correcting}
@@ -18,15 +18,25 @@ AbsentOnlyAtZero n place = n < 64 → is_some place ≡ nat_lt 0 n
 
 abbrev pub UndamagedIsAccepted : ℕ → Option Accepted → Type 0
 UndamagedIsAccepted word answer =
-    (information : List ℕ) → Information information → wrong_bits (sent information) word ≡ 0 → answer ≡ accepted information false
+    (information : List ℕ)
+    → Information information
+    → wrong_bits (sent information) word ≡ 0
+    → answer ≡ accepted information false
 
 abbrev pub OneWrongBitIsCorrected : Mode → ℕ → Option Accepted → Type 0
 OneWrongBitIsCorrected mode word answer =
-    (information : List ℕ) → Information information → mode ≡ Correcting → wrong_bits (sent information) word ≡ 1 → answer ≡ accepted information true
+    (information : List ℕ)
+    → Information information
+    → mode ≡ Correcting
+    → wrong_bits (sent information) word ≡ 1
+    → answer ≡ accepted information true
 
 abbrev pub TwoWrongBitsAreRejected : ℕ → Option Accepted → Type 0
 TwoWrongBitsAreRejected word answer =
-    (information : List ℕ) → Information information → wrong_bits (sent information) word ≡ 2 → answer ≡ rejected
+    (information : List ℕ)
+    → Information information
+    → wrong_bits (sent information) word ≡ 2
+    → answer ≡ rejected
 
 abbrev pub OneOrThreeWrongBitsAreDetected : Mode → ℕ → Option Accepted → Type 0
 OneOrThreeWrongBitsAreDetected mode word answer =

@@ -1,5 +1,5 @@
--- Polynomials modulo 2. A polynomial is written as the number whose binary digit of weight 2 ^ d is the coefficient of X^d, so that
--- X^6 + X + 1 is 0b1000011 and X^d · p is 2 ^ d * p. Assumes nothing.
+-- Polynomials modulo 2. A polynomial is written as the number whose binary digit of weight 2 ^ d is the coefficient of
+-- X^d, so that X^6 + X + 1 is 0b1000011 and X^d · p is 2 ^ d * p. Assumes nothing.
 use Rattle.std.specs.Prelude.{◌≡◌, ℕ, zero, suc, ◌+◌, ◌*◌, ◌/◌, ◌%◌, ◌^◌, ◌<◌, ◌≤◌, List, [], ◌∷◌, length, bit_xor}
 use Rattle.std.specs.Int.Digits.{AllBelowBase}
 
@@ -31,7 +31,8 @@ unfoldable pub multiple : ℕ → List ℕ → ℕ
 multiple g [] = 0
 multiple g (c ∷ cs) = c * (2 ^ length cs * g) ⊕ multiple g cs
 
--- what a remainder is: r has a lower degree than g, and p is r with a multiple of g added, in which the other factor has a degree below 64
+-- what a remainder is: r has a lower degree than g, and p is r with a multiple of g added, in which the other factor
+-- has a degree below 64
 pub record Remainder (g n p r : ℕ) : Type 0 where
   pub lower : r < 2 ^ n
   pub quotient : List ℕ

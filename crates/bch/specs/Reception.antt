@@ -1,5 +1,5 @@
--- What is made of 64 received bits, and what the code promises of wrong bits. A word of 64 bits is a number, the first bit the highest.
--- Assumes nothing.
+-- What is made of 64 received bits, and what the code promises of wrong bits. A word of 64 bits is a number, the first
+-- bit the highest. Assumes nothing.
 use Rattle.std.specs.Prelude.{ℕ, Bool, List, zero, suc, ◌/◌, ◌%◌, ◌^◌, true, false, cond, Some, None, Option, ◌==◌}
 use Rattle.bch.specs.declared.Mode.{Mode}
 use Rattle.bch.specs.declared.Mode.TheVariants.{Detecting, Correcting}
@@ -11,7 +11,8 @@ use Rattle.bch.specs.Codeblock.{complemented, information_of}
 abbrev pub syndrome_polynomial : ℕ
 syndrome_polynomial = 0b1000011
 
--- the first 63 bits as a polynomial, the first bit at degree 62, with the check bits complemented; the filler is left out
+-- the first 63 bits as a polynomial, the first bit at degree 62, with the check bits complemented;
+-- the filler is left out
 abbrev pub received : ℕ → ℕ
 received word = complemented (word / 2)
 

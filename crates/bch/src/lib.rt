@@ -1,5 +1,5 @@
-//! The telecommand code: codeblocks of 56 information bits, seven check bits and a filler bit, and
-//! what is made of one that is received. Here are its definitions, in `specs/`, and its laws; the
+//! The telecommand code: codeblocks of eight octets, seven of information and one of the check bits and the
+//! filler, and what is made of one that is received. Here are its definitions, in `specs/`, and its laws; the
 //! functions that fly are in the crate `coding`.
 #![tactic(auto)]
 

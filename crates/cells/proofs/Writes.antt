@@ -240,3 +240,8 @@ finishes_unopened old none = finishes_none old NoCandidateOpen None (ap finish_c
 
 pub finishes_empty : (old : Counts) → old.unfinished ≡ Some 0 → FinishesNone old old CandidateEmpty
 finishes_empty old none = finishes_none old CandidateEmpty (Some []) (ap finish_counted none) (λ cells. ap (λ u. unfinished_in u (drop old.used cells)) none) refl (λ finished. refl) refl
+
+-- what an add and a finish cite
+pub ruleset adding = (adds, adds_unopened, adds_full)
+
+pub ruleset finishing = (finishes, finishes_unopened, finishes_empty)

@@ -26,7 +26,9 @@ grouped (suc n) cells = octets_of (take (first_count cells) cells) ∷ grouped n
 -- the cells are those of so many candidates, of one codeblock at least
 abbrev pub parted : ℕ → List Cell → Bool
 parted zero cells = length cells == 0
-parted (suc n) cells = nat_le 1 (first_count cells) && (nat_le (first_count cells) (length cells) && parted n (drop (first_count cells) cells))
+parted (suc n) cells =
+    nat_le 1 (first_count cells)
+    && (nat_le (first_count cells) (length cells) && parted n (drop (first_count cells) cells))
 
 -- how many codeblocks the open candidate has, and the candidate itself, which begins with these cells
 abbrev pub added : Option ℕ → ℕ

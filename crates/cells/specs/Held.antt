@@ -47,7 +47,8 @@ module _ (counts : Counts) (cells : List Cell) (counted : Counted counts cells) 
   pub open_is_added : added counts.unfinished ≡ open_codeblocks (opened_of counts cells)
   open_is_added = sym (open_codeblocks_unfinished counts.unfinished (drop counts.used cells) fits)
 
-  pub free_cells : counts.cells - held_by counts ≡ free_space counts.cells (finished_of counts cells) (opened_of counts cells)
+  pub free_cells :
+      counts.cells - held_by counts ≡ free_space counts.cells (finished_of counts cells) (opened_of counts cells)
   free_cells = omega (arith, finished_is_used, open_is_added)
 
   pub sound : Sound counts.cells (finished_of counts cells) (opened_of counts cells)
@@ -77,21 +78,31 @@ pub record SameFinished (old new : Counts) : Type 0 where
 pub record Stored (old new : Counts) (cells now : List Cell) (octets : List ℕ) : Type 0 where
   pub counted : Counted new now
   pub finished : finished_of new now ≡ finished_of old cells
-  pub opened : opened_of new now ≡ after_add plain_showing old.cells (finished_of old cells) (opened_of old cells) octets
+  pub opened :
+      opened_of new now ≡ after_add plain_showing old.cells (finished_of old cells) (opened_of old cells) octets
 
 pub record Adds (old new : Counts) : Type 0 where
   pub finished : SameFinished old new
   pub begun : old.unfinished ≡ Some (added old.unfinished)
   pub free : held_by old < old.cells
   pub more : new.unfinished ≡ Some (added old.unfinished + 1)
-  pub answer : (cells : List Cell) → Counted old cells → add_answer old.cells (finished_of old cells) (opened_of old cells) ≡ Ok tt
-  pub stored : (cells : List Cell) (cell : Cell) → Counted old cells → length cell.octets ≡ 7 → Stored old new cells (slice_set cells (held_by old) cell) cell.octets
+  pub answer : (cells : List Cell)
+      → Counted old cells
+      → add_answer old.cells (finished_of old cells) (opened_of old cells) ≡ Ok tt
+  pub stored : (cells : List Cell) (cell : Cell)
+      → Counted old cells
+      → length cell.octets ≡ 7
+      → Stored old new cells (slice_set cells (held_by old) cell) cell.octets
 
 pub record AddsNone (old new : Counts) (why : Refusal) : Type 0 where
   pub reason : add_counted (old.cells - held_by old) old.unfinished ≡ Err why
   pub same : new ≡ old
-  pub answer : (cells : List Cell) → Counted old cells → add_answer old.cells (finished_of old cells) (opened_of old cells) ≡ Err why
-  pub kept : (cells : List Cell) (octets : List ℕ) → Counted old cells → after_add plain_showing old.cells (finished_of old cells) (opened_of old cells) octets ≡ opened_of old cells
+  pub answer : (cells : List Cell)
+      → Counted old cells
+      → add_answer old.cells (finished_of old cells) (opened_of old cells) ≡ Err why
+  pub kept : (cells : List Cell) (octets : List ℕ)
+      → Counted old cells
+      → after_add plain_showing old.cells (finished_of old cells) (opened_of old cells) octets ≡ opened_of old cells
 
 -- how many codeblocks the candidate has, put into its first cell
 pub record Noted (old new : Counts) (cells now : List Cell) : Type 0 where
@@ -111,14 +122,19 @@ pub record Finishes (old new : Counts) (codeblocks : ℕ) : Type 0 where
   pub some : 0 < codeblocks
   pub first : (cells : List Cell) → Counted old cells → old.used < old.cells
   pub answer : (cells : List Cell) → Counted old cells → finish_answer (opened_of old cells) ≡ Ok tt
-  pub noted : (cells : List Cell) (cell : Cell) → Counted old cells → cell.octets ≡ (slice_index_or cells old.used blank).octets → cell.codeblocks ≡ codeblocks →
-      Noted old new cells (slice_set cells old.used cell)
+  pub noted : (cells : List Cell) (cell : Cell)
+      → Counted old cells
+      → cell.octets ≡ (slice_index_or cells old.used blank).octets
+      → cell.codeblocks ≡ codeblocks
+      → Noted old new cells (slice_set cells old.used cell)
 
 pub record FinishesNone (old new : Counts) (why : Refusal) : Type 0 where
   pub reason : finish_counted old.unfinished ≡ Err why
   pub same : new ≡ old
   pub answer : (cells : List Cell) → Counted old cells → finish_answer (opened_of old cells) ≡ Err why
-  pub finished : (cells : List Cell) → Counted old cells → finished_after_finish (finished_of old cells) (opened_of old cells) ≡ finished_of old cells
+  pub finished : (cells : List Cell)
+      → Counted old cells
+      → finished_after_finish (finished_of old cells) (opened_of old cells) ≡ finished_of old cells
   pub opened : (cells : List Cell) → Counted old cells → open_after_finish (opened_of old cells) ≡ opened_of old cells
 
 -- none waits, and what is refused for that
@@ -141,5 +157,9 @@ pub record Oldest (counts : Counts) (cells : List Cell) (codeblocks : ℕ) : Typ
   pub octets : length (oldest_of (finished_of counts cells)) ≡ 7 * codeblocks
   pub answer : oldest_length (finished_of counts cells) ≡ Ok (7 * codeblocks)
   pub released : release_answer (finished_of counts cells) ≡ Ok tt
-  pub stretch_past : (place : ℕ) (memory : List ℕ) → 7 * codeblocks - place < length memory → stretch_answer (finished_of counts cells) place memory ≡ Err PastCandidateEnd
-  pub kept_past : (place : ℕ) (memory : List ℕ) → 7 * codeblocks - place < length memory → after_stretch (finished_of counts cells) place memory ≡ memory
+  pub stretch_past : (place : ℕ) (memory : List ℕ)
+      → 7 * codeblocks - place < length memory
+      → stretch_answer (finished_of counts cells) place memory ≡ Err PastCandidateEnd
+  pub kept_past : (place : ℕ) (memory : List ℕ)
+      → 7 * codeblocks - place < length memory
+      → after_stretch (finished_of counts cells) place memory ≡ memory

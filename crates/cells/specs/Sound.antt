@@ -27,12 +27,14 @@ parts n cells whole =
 pub length_octets_take : (n : ℕ) (cells : List Cell) → n ≤ length cells → length (octets_of (take n cells)) ≡ 7 * n
 length_octets_take n cells h = omega (arith, length_octets_of (take n cells), length-take-le n cells h)
 
-pub finished_codeblocks_grouped : (n : ℕ) (cells : List Cell) → parted n cells ≡ true → finished_codeblocks (grouped n cells) ≡ length cells
+pub finished_codeblocks_grouped : (n : ℕ) (cells : List Cell) →
+    parted n cells ≡ true → finished_codeblocks (grouped n cells) ≡ length cells
 finished_codeblocks_grouped zero cells whole = sym (eqb-true (length cells) 0 whole)
 finished_codeblocks_grouped (suc n) cells whole =
     let p = parts n cells whole in
     let c = first_count cells in
-    omega (arith, length_octets_take c cells p.within, finished_codeblocks_grouped n (drop c cells) p.rest, length-drop c cells)
+    let behind = finished_codeblocks_grouped n (drop c cells) p.rest in
+    omega (arith, length_octets_take c cells p.within, behind, length-drop c cells)
 
 pub finished_whole_grouped : (n : ℕ) (cells : List Cell) → parted n cells ≡ true → FinishedWhole (grouped n cells)
 finished_whole_grouped zero cells whole = tt
@@ -42,10 +44,12 @@ finished_whole_grouped (suc n) cells whole =
     let long = length_octets_take c cells p.within in
     (omega arith, omega arith, finished_whole_grouped n (drop c cells) p.rest)
 
-pub open_codeblocks_unfinished : (unfinished : Option ℕ) (cells : List Cell) → added unfinished ≤ length cells → open_codeblocks (unfinished_in unfinished cells) ≡ added unfinished
+pub open_codeblocks_unfinished : (unfinished : Option ℕ) (cells : List Cell) →
+    added unfinished ≤ length cells → open_codeblocks (unfinished_in unfinished cells) ≡ added unfinished
 open_codeblocks_unfinished None cells h = refl
 open_codeblocks_unfinished (Some n) cells h = omega (arith, length_octets_take n cells h)
 
-pub open_whole_unfinished : (unfinished : Option ℕ) (cells : List Cell) → added unfinished ≤ length cells → OpenWhole (unfinished_in unfinished cells)
+pub open_whole_unfinished : (unfinished : Option ℕ) (cells : List Cell) →
+    added unfinished ≤ length cells → OpenWhole (unfinished_in unfinished cells)
 open_whole_unfinished None cells h = tt
 open_whole_unfinished (Some n) cells h = omega (arith, length_octets_take n cells h)

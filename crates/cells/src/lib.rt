@@ -47,7 +47,9 @@ impl Counts {
     #[tactic(auto, using(crate::specs::Held::free_cells))]
     pub fn free_space(&self) -> usize
         ensures cells { result ≡ self.now.cells - held_by self.now }
-        ensures space { (cells : List Cell) → Counted self.now cells → result ≡ free_space self.now.cells (finished_of self.now cells) (opened_of self.now cells) }
+        ensures space { (cells : List Cell)
+            → Counted self.now cells
+            → result ≡ free_space self.now.cells (finished_of self.now cells) (opened_of self.now cells) }
     {
         self.cells.saturating_sub(self.held())
     }
@@ -56,7 +58,9 @@ impl Counts {
     #[tactic(auto, using(crate::specs::Held::open_is_added))]
     pub fn open_codeblocks(&self) -> usize
         ensures counted { result ≡ added self.now.unfinished }
-        ensures codeblocks { (cells : List Cell) → Counted self.now cells → result ≡ open_codeblocks (opened_of self.now cells) }
+        ensures codeblocks { (cells : List Cell)
+            → Counted self.now cells
+            → result ≡ open_codeblocks (opened_of self.now cells) }
     {
         self.unfinished.unwrap_or(0)
     }
@@ -78,7 +82,7 @@ impl Counts {
 
     /// Counts one codeblock more of the open candidate. Refused with 11 where none is open, and with 12
     /// where no cell is free.
-    #[tactic(auto, using(crate::proofs::Writes::adds, crate::proofs::Writes::adds_unopened, crate::proofs::Writes::adds_full))]
+    #[tactic(auto, using(crate::proofs::Writes::adding))]
     pub fn add(&mut self) -> Result<(), Refusal>
         ensures { MatchResult result (λ _. Adds self.old self.new) (AddsNone self.old self.new) }
     {
@@ -94,7 +98,7 @@ impl Counts {
 
     /// Counts the open candidate among the finished ones, and gives how many codeblocks it has. Refused with
     /// 11 where none is open, and with 13 where it is empty.
-    #[tactic(auto, using(crate::proofs::Writes::finishes, crate::proofs::Writes::finishes_unopened, crate::proofs::Writes::finishes_empty))]
+    #[tactic(auto, using(crate::proofs::Writes::finishing))]
     pub fn finish(&mut self) -> Result<usize, Refusal>
         ensures { MatchResult result (Finishes self.old self.new) (FinishesNone self.old self.new) }
     {
@@ -125,7 +129,9 @@ impl Counts {
 /// Whether a stretch of so many octets, from a place on, lies within a candidate of so many. Refused with 8 where
 /// an octet at or past its end is asked for.
 pub fn stretch_within(candidate: usize, place: usize, octets: usize) -> Result<(), Refusal>
-    ensures { MatchResult result (λ _. octets ≤ candidate - place) (λ why. (why ≡ PastCandidateEnd) × (candidate - place < octets)) }
+    ensures { MatchResult result
+        (λ _. octets ≤ candidate - place)
+        (λ why. (why ≡ PastCandidateEnd) × (candidate - place < octets)) }
 {
     if octets > candidate.saturating_sub(place) {
         return Err(Refusal::PastCandidateEnd);

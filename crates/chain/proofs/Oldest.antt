@@ -120,3 +120,6 @@ pub next_octet : (cells : List Cell) (first place : ℕ) → place % 7 ≡ 6 →
 next_octet cells first place last =
     let on : place / 7 + 1 ≡ (place + 1) / 7 = omega arith in
     sym (after_more cells (place / 7) first) ∙ ap (λ n. after n cells first) on
+
+-- what a read cites
+pub ruleset reads = (oldest_short, links_below, octet_cell_below, octet_read, stretch_answered, all_read)

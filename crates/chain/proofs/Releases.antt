@@ -13,7 +13,7 @@ use Rattle.chain.specs.Links.{Chained, blank, cell_at, after, nodes, rooms, in_t
 use Rattle.chain.specs.Held.{capacity_of, finished_in, opened_in}
 use Rattle.chain.proofs.Links.{nodes_add, after_add, after_more, get_nodes, times_append, after_elsewhere, nodes_elsewhere, nodes_relinked, after_relinked, before_it, behind_it, below, occurs}
 use Rattle.chain.proofs.Turns.{front_nodes, drop_nodes, length_in_turn, take_in_turn}
-use Rattle.chain.proofs.Oldest.{as_many, held_fits, used_turn, cell_below, end_cell, oldest_ends}
+use Rattle.chain.proofs.Oldest.{as_many, held_fits, first_below, used_turn, cell_below, end_cell, oldest_ends}
 
 -- the same cells in the same order: so are fewer of them, and so is each
 module _ (m : ℕ) (later cells : List Cell) (from place : ℕ) (same : nodes m later from ≡ nodes m cells place) where
@@ -335,3 +335,6 @@ module _ (chain : Chain) (n : ℕ) (oldest : Oldest chain.counts (in_turn chain.
 pub may_move : (chain : Chain) (n : ℕ) → Oldest chain.counts (in_turn chain.cells.now chain.first) n →
     ((cell_at chain.cells.now chain.first).last < length chain.cells.now) × (chain.last_held < length chain.cells.now)
 may_move chain n oldest = may_move_now chain n oldest
+
+-- what a release cites
+pub ruleset releases = (first_below, may_move, moved_finished, moved_opened)

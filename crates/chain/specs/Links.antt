@@ -76,7 +76,8 @@ filled cells place codeblock = slice_set cells place (record (cell_at cells plac
 -- cells of which one has a candidate's codeblocks and last cell
 unfoldable pub noted : (cells : List Cell) (place codeblocks last : ℕ) → List Cell
 noted cells place codeblocks last =
-    slice_set cells place (record (cell_at cells place) { room = record { octets = (cell_at cells place).room.octets; codeblocks = codeblocks }; last = last })
+    let room : Room = record { octets = (cell_at cells place).room.octets; codeblocks = codeblocks } in
+    slice_set cells place (record (cell_at cells place) { room = room; last = last })
 
 -- cells of which those from the first to an end come behind the last held one and before the first free one,
 -- and which comes first then
@@ -86,8 +87,10 @@ moved_behind cells first end last_held first_free = relinked (relinked cells las
 unfoldable pub first_behind : (cells : List Cell) (first end last_held : ℕ) → ℕ
 first_behind cells first end last_held = (cell_at (relinked cells last_held first) end).next
 
--- what a chain keeps of its cells, by how many the finished candidates have, how many wait, and how many the open one has
-pub record Chained (cells : List Cell) (first first_open first_free last_finished last_held used waiting opened : ℕ) : Type 0 where
+-- what a chain keeps of its cells, by how many the finished candidates have, how many of these wait, and how many cells
+-- the open one has
+pub record Chained (cells : List Cell) (first first_open first_free last_finished last_held used waiting opened : ℕ)
+    : Type 0 where
   -- by the links from the first cell on, every cell comes once
   pub each_once : EachOnce (length cells) (nodes (length cells) cells first)
   -- those of the finished candidates come first, then those of the open one, then the free ones

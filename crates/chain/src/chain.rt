@@ -32,5 +32,6 @@ pub struct Chain<'a> {
     pub(crate) last_held: u16,
     pub(crate) counts: Counts,
     ghost counted: { Counted counts (in_turn cells.now first) },
-    ghost chained: { Chained cells.now first first_open first_free last_finished last_held counts.used counts.waiting (added counts.unfinished) },
+    ghost chained: { Chained cells.now first first_open first_free last_finished last_held
+        counts.used counts.waiting (added counts.unfinished) },
 }

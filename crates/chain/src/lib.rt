@@ -2,10 +2,9 @@
 //! constant time for each call but the making and a read.
 #![tactic(auto)]
 
-ghost use Rattle.std.specs.Prelude.{◌≡◌, ℕ, ◌+◌, ◌-◌, ◌/◌, ◌<◌, ◌≤◌, ◌==◌, cond, min, [], length, None as absent, Ok, MatchResult, OnErr, OnOk};
-ghost use Rattle.randomizer.specs.declared.Randomizer.TheVariants.{Off};
-ghost use Rattle.hold.specs.Candidates.{Matches, add_answer, after_add, stretch_answer, after_stretch};
-ghost use Rattle.hold.specs.Plain.{plain_showing, plain_shows_apart};
+ghost use Rattle.std.specs.Prelude.{◌≡◌, ℕ, ◌+◌, ◌-◌, ◌/◌, ◌<◌, ◌≤◌, ◌==◌, cond, min, length, Ok, MatchResult, OnErr, OnOk};
+ghost use Rattle.hold.specs.Candidates.{add_answer, after_add, stretch_answer, after_stretch};
+ghost use Rattle.hold.specs.Plain.{plain_showing, plain_shows_apart, EmptyPlainHold};
 ghost use Rattle.cells.specs.Cells.{added};
 ghost use Rattle.cells.specs.Held.{oldest_of, Oldest, NoneWaits};
 ghost use Rattle.chain.specs.Links.{LinkInTurn, in_turn, cell_at, after, filled, noted, moved_behind, first_behind};
@@ -91,11 +90,7 @@ impl<'a> Chain<'a> {
     /// cells at all it is a chain with no space.
     #[tactic(auto, using(crate::proofs::Begin::few_taken, hold::proofs::Plain::plain_matches))]
     pub fn new(cells: &'a mut [LinkedCell]) -> Chain<'a>
-        ensures capacity { ⟦<Chain<'static> as Hold>⟧.capacity result ≡ min (length cells.old) 65535 }
-        ensures finished { ⟦<Chain<'static> as Hold>⟧.finished result ≡ [] }
-        ensures opened { ⟦<Chain<'static> as Hold>⟧.opened result ≡ absent }
-        ensures showing { ⟦<Chain<'static> as Hold>⟧.showing ≡ plain_showing }
-        ensures matches { Matches ⟦<Chain<'static> as Hold>⟧.showing Off }
+        ensures { EmptyPlainHold ⟦<Chain<'static> as Hold>⟧ (min (length cells.old) 65535) result }
     {
         let counts = Counts::of_nothing(cells.len());
         let cells = &mut cells[..counts.cells];
@@ -114,7 +109,9 @@ impl<'a> Chain<'a> {
     // How many codeblocks the oldest finished candidate has. Refused where none waits.
     #[tactic(auto, using(crate::proofs::Oldest::oldest_counted, crate::proofs::Oldest::first_below))]
     fn oldest(&self) -> Result<u16, Refusal>
-        ensures { MatchResult result (Oldest self.now.counts (in_turn self.now.cells.now self.now.first)) (NoneWaits (finished_in self.now)) }
+        ensures { MatchResult result
+            (Oldest self.now.counts (in_turn self.now.cells.now self.now.first))
+            (NoneWaits (finished_in self.now)) }
     {
         if self.counts.waiting == 0 {
             return Err(Refusal::NoCandidate);
@@ -150,7 +147,8 @@ impl<'a> Chain<'a> {
     // that one stands in this cell.
     #[tactic(auto, using(crate::proofs::Oldest::next_octet, crate::proofs::Oldest::octet_cell_below))]
     fn cell_of_next(&self, cell: u16, place: usize) -> u16
-        requires { (cell ≡ after (place / 7) self.now.cells.now self.now.first) × (place < length (oldest_of (finished_in self.now))) }
+        requires { (cell ≡ after (place / 7) self.now.cells.now self.now.first)
+            × (place < length (oldest_of (finished_in self.now))) }
         ensures { result ≡ after ((place + 1) / 7) self.now.cells.now self.now.first }
     {
         if place % INFORMATION_OCTETS == INFORMATION_OCTETS - 1 {
@@ -161,9 +159,10 @@ impl<'a> Chain<'a> {
     }
 
     // Reads a stretch of the oldest finished candidate, from a place on, into memory that is as long.
-    #[tactic(auto, using(crate::proofs::Oldest::oldest_short, crate::proofs::Oldest::links_below, crate::proofs::Oldest::octet_cell_below, crate::proofs::Oldest::octet_read, crate::proofs::Oldest::stretch_answered, crate::proofs::Oldest::all_read))]
+    #[tactic(auto, using(crate::proofs::Oldest::reads))]
     fn read(&self, place: usize, memory: &mut [u8])
-        requires { (0 < self.now.counts.waiting) × (length memory.old ≤ length (oldest_of (finished_in self.now)) - place) }
+        requires { (0 < self.now.counts.waiting)
+            × (length memory.old ≤ length (oldest_of (finished_in self.now)) - place) }
         ensures answer { stretch_answer (finished_in self.now) place memory.old ≡ Ok tt }
         ensures memory { memory.new ≡ after_stretch (finished_in self.now) place memory.old }
     {
@@ -203,7 +202,8 @@ impl<'a> Hold for Chain<'a> {
         ensures answer { result ≡ add_answer (capacity_of self.old) (finished_in self.old) (opened_in self.old) }
         ensures capacity { capacity_of self.new ≡ capacity_of self.old }
         ensures finished { finished_in self.new ≡ finished_in self.old }
-        ensures opened { opened_in self.new ≡ after_add plain_showing (capacity_of self.old) (finished_in self.old) (opened_in self.old) octets }
+        ensures opened { opened_in self.new
+            ≡ after_add plain_showing (capacity_of self.old) (finished_in self.old) (opened_in self.old) octets }
         ensures refused { OnErr result (self.new ≡ self.old) }
         // The codeblock goes into a cell that no candidate had, and all other cells are as they were.
         ensures takes { OnOk result (TakesFree self.old self.new octets) }
@@ -246,7 +246,7 @@ impl<'a> Hold for Chain<'a> {
         Ok(())
     }
 
-    #[tactic(auto, using(crate::proofs::Oldest::first_below, crate::proofs::Releases::may_move, crate::proofs::Releases::moved_finished, crate::proofs::Releases::moved_opened))]
+    #[tactic(auto, using(crate::proofs::Releases::releases))]
     fn release(&mut self) -> Result<(), Refusal> {
         let codeblocks = self.oldest()? as usize;
         let freed = self.first;

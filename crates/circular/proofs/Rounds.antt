@@ -1,5 +1,5 @@
 -- A list in its turn: from a later place on, one by one, and after a write. Assumes nothing.
-use Rattle.std.proofs.Common.{◌≡◌, ℕ, ◌+◌, ◌-◌, ◌<◌, ◌≤◌, List, ◌++◌, length, take, drop, set, sym, ap, subst, ◌∙◌, ap₂, inl, inr, arith, take-add}
+use Rattle.std.proofs.Common.{◌≡◌, ℕ, ◌+◌, ◌-◌, ◌<◌, ◌≤◌, List, ◌++◌, length, take, drop, set, sym, ap, ◌∙◌, ap₂, inl, inr, arith, take-add}
 use lib.Seq.{take-set-lt, take-append-add, drop-append-add}
 use Rattle.std.proofs.lemmas.List.{append_assoc, length-append, length-take, length-drop, take-append-drop, take-take, drop-drop, take-append-le, drop-append-le, append-nil, take_all, drop_all, set_past, take-set-le, drop-set-lt, drop-set-add, set-append_left, set-append_right}
 use Rattle.circular.specs.Circle.{round_from, Turned}
@@ -38,10 +38,6 @@ module _ {X : Type 0} (xs : List X) (first : ℕ) where
         ∙ ap (λ l. drop place front ++ (back ++ l)) (sym (take-take place first xs (omega arith)))
         ∙ sym (ap (λ i. drop i (back ++ front) ++ take i (back ++ front)) on ∙ ap₂ ◌++◌ (drop-append-add back front place) (take-append-add back front place))
 
--- the same where as many places are given as the list has
-pub round_at : (places first turn place : ℕ) → Turned places first turn place → (xs : List ℕ) → length xs ≡ places → turn ≤ places → round_from place xs ≡ round_from turn (round_from first xs)
-round_at places first turn place turned xs e h = round_from_on xs first turn place (omega arith) (subst (λ n. Turned n first turn place) (sym e) turned)
-
 module _ {X : Type 0} (xs : List X) where
   pub round_from_start : round_from 0 xs ≡ xs
   round_from_start = append-nil xs
@@ -54,3 +50,8 @@ module _ {X : Type 0} (xs : List X) where
       let round = round_from first xs in
       let long = length_round_from xs first in
       ap₂ ◌++◌ (drop_all turns round (omega (arith, long))) (take_all turns round (omega (arith, long)))
+
+-- what a write in a circle cites, and what passing its cells over does
+pub ruleset writes = (length_round_from, round_from_set, past)
+
+pub ruleset passes = (length_round_from, round_from_on, past_all)

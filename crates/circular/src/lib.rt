@@ -10,14 +10,10 @@ mod circle;
 
 pub use circle::Circle;
 
-/// The place that comes `turn` after `first`, in a circle of so many places: after the last comes place 0. A
-/// `first` past the last place stands for place 0. The answer passes the last place once: where `turn` is more
-/// than a whole round, it counts on from place 0 and may itself be past the last.
-#[tactic(auto, using(crate::proofs::Rounds::round_at))]
-pub fn place_after(places: usize, first: usize, turn: usize) -> usize
-    ensures place { Turned places first turn result }
-    ensures within { turn < places → result < places }
-    ensures round { (xs : List ℕ) → length xs ≡ places → turn ≤ places → round_from result xs ≡ round_from turn (round_from first xs) }
+// The place that comes `turn` after `first`, in a circle of so many places: after the last comes place 0. A `first`
+// past the last place stands for place 0. A `turn` of more than a whole round counts on from place 0, past the last.
+fn place_after(places: usize, first: usize, turn: usize) -> usize
+    ensures { Turned places first turn result }
 {
     let to_the_end = places.saturating_sub(first);
     if turn < to_the_end {
@@ -60,7 +56,7 @@ impl<'a, T: Copy> Circle<'a, T> {
     }
 
     /// Puts a value into the cell whose turn this is. A turn past the last changes nothing.
-    #[tactic(auto, using(crate::proofs::Rounds::length_round_from, crate::proofs::Rounds::round_from_set, crate::proofs::Rounds::past))]
+    #[tactic(auto, using(crate::proofs::Rounds::writes))]
     pub fn set(&mut self, turn: usize, value: T)
         ensures cells { in_turn self.new ≡ slice_set (in_turn self.old) turn value }
         ensures first { first_of self.new ≡ first_of self.old }
@@ -73,7 +69,7 @@ impl<'a, T: Copy> Circle<'a, T> {
     }
 
     /// Passes so many cells over: they come last. As many as all, or more, change nothing.
-    #[tactic(auto, using(crate::proofs::Rounds::length_round_from, crate::proofs::Rounds::round_from_on, crate::proofs::Rounds::past_all))]
+    #[tactic(auto, using(crate::proofs::Rounds::passes))]
     pub fn advance(&mut self, turns: usize)
         ensures cells { in_turn self.new ≡ round_from turns (in_turn self.old) }
         ensures memory { memory_of self.new ≡ memory_of self.old }

@@ -14,7 +14,8 @@ codeblocks_for n = (n + 6) / 7
 
 -- count is the least number of codeblocks that holds n octets
 abbrev pub LeastThatHolds : ℕ → ℕ → Type 0
-LeastThatHolds n count = (n ≤ information_octets * count) × ((other : ℕ) → n ≤ information_octets * other → count ≤ other)
+LeastThatHolds n count =
+    (n ≤ information_octets * count) × ((other : ℕ) → n ≤ information_octets * other → count ≤ other)
 
 -- fill octets lengthen a frame to whole codeblocks
 abbrev pub fill_octet : ℕ

@@ -1,12 +1,16 @@
--- The greatest count of codeblocks in a CLTU, and when a value for it is refused. Assumes nothing.
+-- How many codeblocks CLTUs may have: what a limit allows, and which numbers are a limit. Assumes nothing.
 use Rattle.std.specs.Prelude.{◌≡◌, ℕ, cond, ◌&&◌, Ok, Err, Result, nat_le}
 use Rattle.refusals.specs.declared.Refusal.{Refusal}
 use Rattle.refusals.specs.declared.Refusal.TheVariants.{CodeblockLimit as OutOfRange}
 use Rattle.cltu.specs.declared.limit.CodeblockLimit.{CodeblockLimit}
 
--- what was made, by its count
+-- how many codeblocks a limit allows a CLTU
+abbrev pub codeblocks_allowed : CodeblockLimit → ℕ
+codeblocks_allowed limit = limit.count
+
+-- what was made, by how many codeblocks it allows
 abbrev pub made_count : Result CodeblockLimit Refusal → Result ℕ Refusal
-made_count (Ok limit) = Ok limit.count
+made_count (Ok limit) = Ok (codeblocks_allowed limit)
 made_count (Err refusal) = Err refusal
 
 -- a CLTU has at most 147 codeblocks

@@ -4,6 +4,7 @@
 ghost use Rattle.std.specs.Prelude.{◌≡◌, ◌+◌, ◌*◌, ◌<◌, ◌≤◌, length, take, drop, slice_index};
 ghost use Rattle.randomizer.specs.Sequence.{randomized};
 ghost use Rattle.bch.specs.Codeblock.{information_octets, codeblock_octets};
+ghost use Rattle.cltu.specs.Limit.{codeblocks_allowed};
 ghost use Rattle.cltu.specs.Cltu.{longest_frame, codeblocks_for, LeastThatHolds, filled, coded, cltu};
 ghost use Rattle.cltu.specs.Writing.{frame_refused, cltu_octets, length_answer, LengthOf, writing_answer, memory_after, NoCltuIsLonger, IsNeverTooShort};
 
@@ -96,7 +97,8 @@ impl<'a> Outgoing<'a> {
     // The information of the codeblock at an index: seven octets of the filled and randomized frame.
     fn information(&self, index: usize) -> [u8; INFORMATION_OCTETS]
         requires { index < self.now.codeblocks }
-        ensures { result ≡ take information_octets (drop (information_octets * index) (randomized self.now.randomizer (filled self.now.frame.now))) }
+        ensures { result ≡ take information_octets
+            (drop (information_octets * index) (randomized self.now.randomizer (filled self.now.frame.now))) }
     {
         // Written out: by `array::from_fn` a frame takes some 4 in a hundred longer to write.
         let first = INFORMATION_OCTETS * index;
@@ -139,7 +141,7 @@ impl<'a> Outgoing<'a> {
 impl Sender {
     // Whether a frame of so many octets is refused.
     fn refuses(self, octets: usize) -> bool
-        ensures { result ≡ frame_refused self.limit.count octets }
+        ensures { result ≡ frame_refused (codeblocks_allowed self.limit) octets }
     {
         !(1..=LONGEST_FRAME).contains(&octets) || octets > INFORMATION_OCTETS * self.limit.count()
     }

@@ -64,7 +64,10 @@ impl Coefficients {
     // generator, of which X^6 + X + 1 is a factor.
     fn reduced(self) -> u8
         ensures value { result ≡ remainder_by syndrome_polynomial 6 self.bits }
-        ensures number { (p : ℕ) → p < 2 ^ 63 → self.bits ≡ remainder_by generator 7 p → result ≡ remainder_by syndrome_polynomial 6 p }
+        ensures number { (p : ℕ)
+            → p < 2 ^ 63
+            → self.bits ≡ remainder_by generator 7 p
+            → result ≡ remainder_by syndrome_polynomial 6 p }
     {
         if self.bits < X_TO_THE_6 {
             self.bits
@@ -232,9 +235,9 @@ fn judged(mode: Mode, word: u64, syndrome: (u8, u8)) -> Option<Accepted>
     }
 }
 
-/// The verdict on 64 received bits: what is accepted of them, or none where they are rejected. Detecting
-/// accepts parity 0 with number 0; correcting accepts that too, and parity 1 with a wrong place, after
-/// turning the bit there. The filler decides nothing.
+/// The verdict on 64 received bits: what is accepted of them, or none where they are rejected. Parity 0 with
+/// number 0 is accepted in both modes. Correcting accepts besides a word whose parity is 1 and whose number has a
+/// wrong place, with the bit there turned. All others are rejected. The filler decides nothing.
 pub fn judge(mode: Mode, word: u64) -> Option<Accepted>
     ensures value { result ≡ verdict mode word }
     ensures undamaged { UndamagedIsAccepted word result }

@@ -33,3 +33,6 @@ told_read (a ∷ b ∷ c ∷ d ∷ []) fits long = absurd (omega arith)
 
 pub none_read : (left : List ℕ) → length left < 5 → frame_octets left ≡ None
 none_read left short = grind (arith, nat_tests)
+
+-- what the reading of a header cites
+pub ruleset header_read = (version_read, told_read, none_read)

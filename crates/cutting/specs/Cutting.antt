@@ -33,7 +33,9 @@ is_fill left = nat_le (length left) most_fill && list_all (λ x. x == fill_octet
 
 -- they begin with a frame: of version 00, and with as many octets as its header tells, five at least
 abbrev pub is_frame_in_front : List ℕ → Bool
-is_frame_in_front left = version left == 0 && (nat_le header_octets (length_by_header left) && nat_le (length_by_header left) (length left))
+is_frame_in_front left =
+    version left == 0
+    && (nat_le header_octets (length_by_header left) && nat_le (length_by_header left) (length left))
 
 -- of how many octets that frame is
 abbrev pub frame_octets : List ℕ → Option ℕ
@@ -58,7 +60,8 @@ frame_part place left None = None
 frame_part place left (Some count) = Some (part frame place (take count left))
 
 abbrev pub part_in_front : ℕ → List ℕ → Option Part
-part_in_front place left = cond (is_fill left) (Some (part fill place left)) (frame_part place left (frame_octets left))
+part_in_front place left =
+    cond (is_fill left) (Some (part fill place left)) (frame_part place left (frame_octets left))
 
 -- a cutting: the parts in their order, and the place at which it is refused, if it is
 pub record Cutting : Type 0 where
@@ -75,7 +78,8 @@ cut_behind behind place (Some first) =
 abbrev pub cut_from : (place done : ℕ) → List ℕ → Cutting
 cut_from place done [] = record { parts = []; refused_at = None }
 cut_from place (suc done) (x ∷ octets) = cut_from (suc place) done octets
-cut_from place zero (x ∷ octets) = cut_behind (λ count. cut_from (suc place) (count - 1) octets) place (part_in_front place (x ∷ octets))
+cut_from place zero (x ∷ octets) =
+    cut_behind (λ count. cut_from (suc place) (count - 1) octets) place (part_in_front place (x ∷ octets))
 
 -- the cutting of a candidate, from place 0
 abbrev pub cutting : List ℕ → Cutting

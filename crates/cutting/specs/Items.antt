@@ -49,4 +49,6 @@ rest_to_come cut = record { parts = behind_first cut.parts; refused_at = cut.ref
 -- an item has an octet at least, and behind its octets the rest is to be cut
 pub record ComesNext (cutter : Cutter) (item : Item) : Type 0 where
   pub some : 0 < length (part_of item).octets
-  pub behind : let next = cutter.place + length (part_of item).octets in cut_from next 0 (drop next cutter.candidate.now) ≡ rest_to_come (to_cut cutter)
+  pub behind :
+      let next = cutter.place + length (part_of item).octets in
+      cut_from next 0 (drop next cutter.candidate.now) ≡ rest_to_come (to_cut cutter)

@@ -1,4 +1,5 @@
--- What is promised of cutting: the parts lie end to end and are the candidate, and what a sender sent comes back. Assumes nothing.
+-- What is promised of cutting: the parts lie end to end and are the candidate, and what a sender sent comes back.
+-- Assumes nothing.
 use Rattle.std.specs.Prelude.{◌≡◌, ℕ, ◌+◌, ◌<◌, ◌≤◌, List, [], ◌∷◌, ◌++◌, length, take, drop, replicate, Some, None}
 use Rattle.std.specs.List.{flat_map, AllByRecursion}
 use Rattle.cltu.specs.Cltu.{fill_octet, fill_for, filled}
@@ -53,14 +54,18 @@ pub record Neither (octets : List ℕ) : Type 0 where
   pub no_fill : IsFill octets → ⊥
   pub no_frame : (count : ℕ) → IsFrame (take count octets) → ⊥
 
--- where cutting is refused, the parts make up what is before that place, and something is left there that begins with no part
+-- where cutting is refused, the parts make up what is before that place, and something is left there that begins with
+-- no part
 pub record MakeUpTill (place : ℕ) (candidate : List ℕ) (parts : List Part) : Type 0 where
   pub before : MakeUp (take place candidate) parts
   pub left : place < length candidate
   pub neither : Neither (drop place candidate)
 
 abbrev pub CutTillRefused : Type 0
-CutTillRefused = (candidate : List ℕ) (place : ℕ) → (cutting candidate).refused_at ≡ Some place → MakeUpTill place candidate (cutting candidate).parts
+CutTillRefused =
+    (candidate : List ℕ) (place : ℕ)
+    → (cutting candidate).refused_at ≡ Some place
+    → MakeUpTill place candidate (cutting candidate).parts
 
 -- frames as parts from a place on, end to end
 abbrev pub frames_from : ℕ → List (List ℕ) → List Part
@@ -79,7 +84,9 @@ end_to_end frames = flat_map (λ octets. octets) frames
 abbrev pub ComesBack : List (List ℕ) → Type 0
 ComesBack frames =
     let sent = end_to_end frames in
-    cutting (filled sent) ≡ record { parts = frames_from 0 frames ++ fill_from (length sent) (replicate (fill_for (length sent)) fill_octet); refused_at = None }
+    let fill_behind = replicate (fill_for (length sent)) fill_octet in
+    cutting (filled sent)
+    ≡ record { parts = frames_from 0 frames ++ fill_from (length sent) fill_behind; refused_at = None }
 
 abbrev pub SentComesBack : Type 0
 SentComesBack = (frames : List (List ℕ)) → AllByRecursion IsFrame frames → ComesBack frames

@@ -67,7 +67,7 @@ fn is_fill(left: &[u8]) -> bool
 }
 
 // How many octets the frame has that octets begin with, if they begin with a frame.
-#[tactic(auto, using(crate::proofs::Header::version_read, crate::proofs::Header::told_read, crate::proofs::Header::none_read, std::proofs::lemmas::Bool::Decides::nat_tests))]
+#[tactic(auto, using(crate::proofs::Header::header_read, std::proofs::lemmas::Bool::Decides::nat_tests))]
 fn frame_octets(left: &[u8]) -> Option<usize>
     ensures { result ≡ frame_octets left.now }
 {
@@ -126,7 +126,8 @@ impl<'a> Cutter<'a> {
     // The item at the cutter's place.
     fn item(&self) -> Option<Item<'a>>
         requires { self.now.place < length self.now.candidate.now }
-        ensures part { option_map part_of result ≡ part_in_front self.now.place (drop self.now.place self.now.candidate.now) }
+        ensures part { option_map part_of result
+            ≡ part_in_front self.now.place (drop self.now.place self.now.candidate.now) }
         ensures next { IfSome result (ComesNext self.now) }
     {
         item_in_front(self.place, &self.candidate[self.place..])

@@ -2,14 +2,14 @@
 use Rattle.std.specs.Prelude.{ℕ, Ok, Err, Result}
 use Rattle.bch.specs.declared.Mode.{Mode}
 use Rattle.refusals.specs.declared.Refusal.{Refusal}
-use Rattle.cltu.specs.Limit.{limit_answer}
+use Rattle.cltu.specs.Limit.{codeblocks_allowed, limit_answer}
 use Rattle.hold.specs.declared.Hold.{Ghosts}
 use Rattle.reception.specs.Decoding.{Settings, settings, Held}
 use Rattle.decoding.specs.declared.settings.Settings.{Settings as Set}
 
 -- the settings of the rules
 abbrev pub rules_of : Set → Settings
-rules_of set = settings set.mode set.limit.count
+rules_of set = settings set.mode (codeblocks_allowed set.limit)
 
 abbrev pub made_settings : Result Set Refusal → Result Settings Refusal
 made_settings (Ok set) = Ok (rules_of set)

@@ -59,7 +59,8 @@ impl Decoding {
         settings: Settings,
         bit: bool,
     ) -> ControlFlow<Report, Decoding>
-        ensures { decoded_as result (held_in H.Hold hold.new) ≡ read_symbol (rules_of settings) H.Hold.showing (held_in H.Hold hold.old) (reading_in self) bit }
+        ensures { decoded_as result (held_in H.Hold hold.new)
+            ≡ read_symbol (rules_of settings) H.Hold.showing (held_in H.Hold hold.old) (reading_in self) bit }
     {
         let word = self.word_with(bit);
         if self.count < 63 {
@@ -132,7 +133,8 @@ fn decode<H: Hold>(
     word: u64,
 ) -> ControlFlow<Report, (u8, u8)>
     requires { (codeblocks ≤ most_codeblocks) × (corrections ≤ codeblocks) }
-    ensures decoded { counted_as result (held_in H.Hold hold.new) ≡ decoded (rules_of settings) H.Hold.showing (held_in H.Hold hold.old) codeblocks corrections word }
+    ensures decoded { counted_as result (held_in H.Hold hold.new)
+        ≡ decoded (rules_of settings) H.Hold.showing (held_in H.Hold hold.old) codeblocks corrections word }
     ensures few { CountsFew result }
 {
     match judge(settings.mode, word) {
@@ -162,7 +164,9 @@ fn count_in<H: Hold>(
     accepted: Accepted,
 ) -> ControlFlow<Report, (u8, u8)>
     requires { (codeblocks ≤ most_codeblocks) × (corrections ≤ codeblocks) }
-    ensures counted { counted_as result (held_in H.Hold hold.new) ≡ counting_in (rules_of settings) H.Hold.showing (held_in H.Hold hold.old) codeblocks corrections accepted.information accepted.corrected }
+    ensures counted { counted_as result (held_in H.Hold hold.new)
+        ≡ counting_in (rules_of settings) H.Hold.showing (held_in H.Hold hold.old)
+        codeblocks corrections accepted.information accepted.corrected }
     ensures few { CountsFew result }
 {
     let reason = if usize::from(codeblocks) >= settings.limit.count() {

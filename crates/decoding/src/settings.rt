@@ -7,7 +7,7 @@ use refusals::Refusal;
 pub struct Settings {
     /// How it treats wrong bits.
     pub mode: Mode,
-    /// The greatest count of codeblocks in a CLTU.
+    /// How many codeblocks it takes in a CLTU.
     pub limit: CodeblockLimit,
 }
 
@@ -15,8 +15,7 @@ impl Settings {
     ghost use Rattle.std.specs.Prelude.{◌≡◌};
     ghost use Rattle.decoding.specs.Meaning.{made_settings, settings_answer};
 
-    /// A mode, and the greatest count of codeblocks in a CLTU. Refused with 4 where this is outside 1 to
-    /// 147.
+    /// A mode, with a limit on how many codeblocks a CLTU has. Refused with 4 where this is outside 1 to 147.
     pub fn new(mode: Mode, limit: usize) -> Result<Settings, Refusal>
         ensures { made_settings result ≡ settings_answer mode limit }
     {

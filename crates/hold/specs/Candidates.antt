@@ -1,8 +1,10 @@
--- The meaning of a hold, which keeps received candidates until a reader takes them: what each call answers and what is held after it.
+-- The meaning of a hold, which keeps received candidates until a reader takes them: what each call answers and what is
+-- held after it.
 --
--- A candidate is the octets of accepted codeblocks, seven a codeblock. A hold has a capacity in codeblocks, a list of finished candidates,
--- the oldest first, and one open candidate or none. Its showing says, for each place in a candidate, as which octet an octet that is
--- added there shows. Each definition is total: a call that is refused leaves all as it was. Assumes nothing.
+-- A candidate is the octets of accepted codeblocks, seven a codeblock. At most one is open, to be added to; those that
+-- are finished wait in a list whose head is the oldest. How many codeblocks there is room for is the capacity. The
+-- showing says, for each place in a candidate, as which octet an octet that is added there shows. Each definition is
+-- total: a call that is refused leaves all as it was. Assumes nothing.
 use Rattle.std.specs.Prelude.{◌≡◌, ℕ, suc, ◌+◌, ◌-◌, ◌/◌, ◌%◌, ◌<◌, ◌≤◌, Bool, cond, ◌||◌, List, [], ◌∷◌, ◌++◌, length, take, drop, Some, None, Ok, Err, Option, Result, ◌==◌, bit_xor, nat_le, nat_lt, slice_index}
 use Rattle.refusals.specs.declared.Refusal.{Refusal}
 use Rattle.refusals.specs.declared.Refusal.TheVariants.{MemoryTooShort, NoCandidate, PastCandidateEnd, CandidateOpen, NoCandidateOpen, NoFreeSpace, CandidateEmpty}
@@ -27,7 +29,7 @@ abbrev pub shown_from : Showing → ℕ → List ℕ → List ℕ
 shown_from showing place [] = []
 shown_from showing place (x ∷ xs) = showing place x ∷ shown_from showing (suc place) xs
 
--- a hold matches a sender where its showing undoes the sender's randomizing at every place
+-- a showing matches a sender's randomizer: whatever octet it randomizes, at whatever place, shows as it was before
 abbrev pub Matches : Showing → Randomizer → Type 0
 Matches showing randomizer = (place x : ℕ) → x < 256 → showing place (bit_xor x (added_at randomizer place)) ≡ x
 
@@ -82,9 +84,10 @@ add_answer capacity finished (Some candidate) =
 abbrev pub after_add : Showing → ℕ → List Candidate → Option Candidate → List ℕ → Option Candidate
 after_add showing capacity finished None octets = None
 after_add showing capacity finished (Some candidate) octets =
-    cond (free_space capacity finished (Some candidate) == 0) (Some candidate) (Some (candidate ++ shown_from showing (length candidate) octets))
+    let more = candidate ++ shown_from showing (length candidate) octets in
+    cond (free_space capacity finished (Some candidate) == 0) (Some candidate) (Some more)
 
--- finish makes the open candidate the last finished one, unless it is empty
+-- finish closes the open candidate, unless it is empty, and puts it behind those that are finished
 abbrev pub finish_answer : Option Candidate → Result (Unit {0}) Refusal
 finish_answer None = Err NoCandidateOpen
 finish_answer (Some []) = Err CandidateEmpty
@@ -121,7 +124,8 @@ oldest_length (candidate ∷ rest) = Ok (length candidate)
 
 abbrev pub oldest_octet : List Candidate → ℕ → Result ℕ Refusal
 oldest_octet [] place = Err NoCandidate
-oldest_octet (candidate ∷ rest) place = cond (nat_lt place (length candidate)) (Ok (slice_index candidate place)) (Err PastCandidateEnd)
+oldest_octet (candidate ∷ rest) place =
+    cond (nat_lt place (length candidate)) (Ok (slice_index candidate place)) (Err PastCandidateEnd)
 
 -- a stretch of the oldest, read into memory that is as long: refused where it asks for an octet at or past the end
 abbrev pub lies_within : (place count : ℕ) → Candidate → Bool
@@ -129,7 +133,8 @@ lies_within place count candidate = count == 0 || nat_le (place + count) (length
 
 abbrev pub stretch_answer : List Candidate → ℕ → List ℕ → Result (Unit {0}) Refusal
 stretch_answer [] place memory = Err NoCandidate
-stretch_answer (candidate ∷ rest) place memory = cond (lies_within place (length memory) candidate) (Ok tt) (Err PastCandidateEnd)
+stretch_answer (candidate ∷ rest) place memory =
+    cond (lies_within place (length memory) candidate) (Ok tt) (Err PastCandidateEnd)
 
 abbrev pub after_stretch : List Candidate → ℕ → List ℕ → List ℕ
 after_stretch [] place memory = memory
@@ -139,8 +144,10 @@ after_stretch (candidate ∷ rest) place memory =
 -- the oldest candidate copied to the front of the caller's memory
 abbrev pub copy_answer : List Candidate → List ℕ → Result ℕ Refusal
 copy_answer [] memory = Err NoCandidate
-copy_answer (candidate ∷ rest) memory = cond (nat_lt (length memory) (length candidate)) (Err MemoryTooShort) (Ok (length candidate))
+copy_answer (candidate ∷ rest) memory =
+    cond (nat_lt (length memory) (length candidate)) (Err MemoryTooShort) (Ok (length candidate))
 
 abbrev pub after_copy : List Candidate → List ℕ → List ℕ
 after_copy [] memory = memory
-after_copy (candidate ∷ rest) memory = cond (nat_lt (length memory) (length candidate)) memory (candidate ++ drop (length candidate) memory)
+after_copy (candidate ∷ rest) memory =
+    cond (nat_lt (length memory) (length candidate)) memory (candidate ++ drop (length candidate) memory)

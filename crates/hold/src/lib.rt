@@ -37,11 +37,12 @@ pub trait Hold {
         ensures answer { result ≡ add_answer (capacity self.old) (finished self.old) (opened self.old) }
         ensures capacity { capacity self.new ≡ capacity self.old }
         ensures finished { finished self.new ≡ finished self.old }
-        ensures opened { opened self.new ≡ after_add showing (capacity self.old) (finished self.old) (opened self.old) octets }
+        ensures opened { opened self.new
+            ≡ after_add showing (capacity self.old) (finished self.old) (opened self.old) octets }
         ensures refused { OnErr result (self.new ≡ self.old) };
 
-    /// Makes the open candidate the last finished one. Refused with 11 where none is open, and with 13
-    /// where it is empty.
+    /// Closes the open candidate, which then waits behind those that are finished. Refused with 11 where none is
+    /// open, and with 13 where it is empty.
     fn finish(&mut self) -> Result<(), Refusal>
         ensures answer { result ≡ finish_answer (opened self.old) }
         ensures capacity { capacity self.new ≡ capacity self.old }
@@ -49,7 +50,7 @@ pub trait Hold {
         ensures opened { opened self.new ≡ open_after_finish (opened self.old) }
         ensures refused { OnErr result (self.new ≡ self.old) };
 
-    /// Drops the open candidate and frees its space. Refused with 11 where none is open.
+    /// Drops the open candidate, whose space is free then. Refused with 11 where none is open.
     fn abandon(&mut self) -> Result<(), Refusal>
         ensures answer { result ≡ abandon_answer (opened self.old) }
         ensures capacity { capacity self.new ≡ capacity self.old }
@@ -57,7 +58,8 @@ pub trait Hold {
         ensures opened { opened self.new ≡ absent }
         ensures refused { OnErr result (self.new ≡ self.old) };
 
-    /// Removes the oldest finished candidate and frees its space. Refused with 7 where none waits.
+    /// Takes the oldest of the finished candidates away, whose space is free then. Refused with 7 where none
+    /// waits.
     fn release(&mut self) -> Result<(), Refusal>
         ensures answer { result ≡ release_answer (finished self.old) }
         ensures capacity { capacity self.new ≡ capacity self.old }

@@ -1,10 +1,7 @@
 //! A hold of one codeblock: the smallest that keeps something.
 #![tactic(auto)]
 
-ghost use Rattle.std.specs.Prelude.{◌≡◌, [], None as absent};
-ghost use Rattle.randomizer.specs.declared.Randomizer.TheVariants.{Off};
-ghost use Rattle.hold.specs.Candidates.{Matches};
-ghost use Rattle.hold.specs.Plain.{plain_showing, plain_shows_apart};
+ghost use Rattle.hold.specs.Plain.{plain_showing, plain_shows_apart, EmptyPlainHold};
 ghost use Rattle.one_cell.specs.Held.{finished_in, opened_in, sound_cell};
 
 use cell::Held;
@@ -19,11 +16,7 @@ impl OneCell {
     /// An empty hold, in which no candidate is open and none waits.
     #[tactic(auto, using(hold::proofs::Plain::plain_matches))]
     pub fn new() -> OneCell
-        ensures capacity { ⟦<OneCell as Hold>⟧.capacity result ≡ 1 }
-        ensures finished { ⟦<OneCell as Hold>⟧.finished result ≡ [] }
-        ensures opened { ⟦<OneCell as Hold>⟧.opened result ≡ absent }
-        ensures showing { ⟦<OneCell as Hold>⟧.showing ≡ plain_showing }
-        ensures matches { Matches ⟦<OneCell as Hold>⟧.showing Off }
+        ensures { EmptyPlainHold ⟦<OneCell as Hold>⟧ 1 result }
     {
         OneCell {
             octets: [0; 7],

@@ -1,4 +1,5 @@
--- The randomizer: its sequence of bits, the octet of the sequence at a place, and octets with the sequence added. Assumes nothing.
+-- The randomizer: its sequence of bits, the octet of the sequence at a place, and octets with the sequence added.
+-- Assumes nothing.
 use Rattle.std.specs.Prelude.{◌≡◌, ℕ, zero, suc, ◌+◌, ◌*◌, ◌%◌, ◌<◌, List, [], ◌∷◌, bit_xor}
 use Rattle.std.specs.Int.Digits.{number_from_digits}
 use Rattle.randomizer.specs.declared.Randomizer.{Randomizer}
@@ -13,10 +14,12 @@ bit_after a b c d e f g h (suc n) = bit_after b c d e f g h ((a + b + c + d + e 
 abbrev pub sequence_bit : ℕ → ℕ
 sequence_bit n = bit_after 1 1 1 1 1 1 1 1 n
 
--- the rule by which the sequence is known: eight ones, and then each bit is the sum modulo 2 of six of the eight before it
+-- the rule by which the sequence is known: eight ones, and then each bit is the sum modulo 2 of six of the eight
+-- before it
 pub record FollowsTheRule (bit : ℕ → ℕ) : Type 0 where
   pub begins : (n : ℕ) → n < 8 → bit n ≡ 1
-  pub goes_on : (n : ℕ) → bit (n + 8) ≡ (bit n + bit (n + 1) + bit (n + 2) + bit (n + 3) + bit (n + 4) + bit (n + 6)) % 2
+  pub goes_on : (n : ℕ) →
+      bit (n + 8) ≡ (bit n + bit (n + 1) + bit (n + 2) + bit (n + 3) + bit (n + 4) + bit (n + 6)) % 2
 
 -- the first eight bits as an octet, the first bit the most significant
 abbrev pub octet_of : (ℕ → ℕ) → ℕ

@@ -1,5 +1,5 @@
-//! Every refusal of the channel end, as one enum. A call refuses exactly when one of its own
-//! conditions applies, with the lowest number that applies, and alters nothing.
+//! Every refusal of the channel end, as one enum. Each call has conditions on which it refuses. Where none of
+//! them holds it does what it is for; where some hold it answers the lowest of their numbers and alters nothing.
 #![tactic(auto)]
 
 ghost use Rattle.std.specs.Prelude.{◌≡◌, Some};
@@ -11,9 +11,9 @@ use std::fmt;
 /// Why a call was refused.
 #[derive(Clone, Copy, Debug, PartialEq, Eq)]
 pub enum Refusal {
-    /// 1: the frame is empty, too long, or not wholly in the caller's frame memory.
+    /// 1: the frame has no octet or too many, or some of its octets lie outside the caller's frame memory.
     FrameLength,
-    /// 2: the caller's memory is too short for the result.
+    /// 2: the result is longer than the caller's memory.
     MemoryTooShort,
     /// 3: an acquisition or idle length is outside its range.
     IdleLength,
@@ -33,9 +33,9 @@ pub enum Refusal {
     CandidateOpen,
     /// 11: add, finish or abandon while no candidate is open.
     NoCandidateOpen,
-    /// 12: add while there is no free space.
+    /// 12: add while no space is free.
     NoFreeSpace,
-    /// 13: finish of an empty candidate.
+    /// 13: finish while the open candidate has no codeblock.
     CandidateEmpty,
     /// 14: put into a full queue.
     QueueFull,

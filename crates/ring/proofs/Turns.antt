@@ -8,7 +8,7 @@ use Rattle.hold.specs.Candidates.{stretch_answer, after_stretch, after_release}
 use Rattle.cells.specs.declared.cell.Cell.{Cell}
 use Rattle.cells.specs.Cells.{grouped, parted, unfinished_in}
 use Rattle.cells.specs.Held.{held_by, oldest_of, Oldest, blank}
-use Rattle.cells.proofs.Oldest.{is_oldest, first_counted, octet_at, turn_below as turn_used}
+use Rattle.cells.proofs.Oldest.{is_oldest, first_counted, octet_at, read_more, turn_below as turn_used}
 use Rattle.cells.proofs.Oldest.{length_finished as as_many_finished, stretch_answered as answered, oldest_short as short, all_read as all_of_it}
 use Rattle.cells.proofs.Oldest.{finished_behind as finished_left, whole_behind as whole_left, open_behind as open_left}
 use Rattle.ring.specs.declared.ring.Ring.{Ring}
@@ -66,3 +66,8 @@ module _ (ring : Ring) where
 
     pub open_behind : unfinished_in ring.counts.unfinished (drop (ring.counts.used - n) now) ≡ opened_in ring
     open_behind = open_left ring.counts (in_turn ring) now n ring.counted oldest behind
+
+-- what a read and a release cite
+pub ruleset reads = (oldest_short, read_more, stretch_answered, all_read)
+
+pub ruleset releases = (finished_behind, whole_behind, open_behind, as_many)

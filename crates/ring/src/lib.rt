@@ -1,10 +1,9 @@
 //! A hold of candidates in lent cells: no allocation, and constant time for each call but a read.
 #![tactic(auto)]
 
-ghost use Rattle.std.specs.Prelude.{◌≡◌, ◌-◌, ◌<◌, ◌≤◌, min, [], length, None as absent, Ok, MatchResult, slice_index};
-ghost use Rattle.randomizer.specs.declared.Randomizer.TheVariants.{Off};
-ghost use Rattle.hold.specs.Candidates.{Matches, stretch_answer, after_stretch};
-ghost use Rattle.hold.specs.Plain.{plain_showing, plain_shows_apart};
+ghost use Rattle.std.specs.Prelude.{◌≡◌, ◌-◌, ◌<◌, ◌≤◌, min, length, Ok, MatchResult, slice_index};
+ghost use Rattle.hold.specs.Candidates.{stretch_answer, after_stretch};
+ghost use Rattle.hold.specs.Plain.{plain_showing, plain_shows_apart, EmptyPlainHold};
 ghost use Rattle.cells.specs.Held.{oldest_of, Oldest, NoneWaits};
 ghost use Rattle.ring.specs.Held.{in_turn, capacity_of, finished_in, opened_in, sound_ring};
 
@@ -25,11 +24,7 @@ impl<'a> Ring<'a> {
     /// cells at all it is a ring with no space.
     #[tactic(auto, using(hold::proofs::Plain::plain_matches))]
     pub fn new(cells: &'a mut [Cell]) -> Ring<'a>
-        ensures capacity { ⟦<Ring<'static> as Hold>⟧.capacity result ≡ min (length cells.old) 65535 }
-        ensures finished { ⟦<Ring<'static> as Hold>⟧.finished result ≡ [] }
-        ensures opened { ⟦<Ring<'static> as Hold>⟧.opened result ≡ absent }
-        ensures showing { ⟦<Ring<'static> as Hold>⟧.showing ≡ plain_showing }
-        ensures matches { Matches ⟦<Ring<'static> as Hold>⟧.showing Off }
+        ensures { EmptyPlainHold ⟦<Ring<'static> as Hold>⟧ (min (length cells.old) 65535) result }
     {
         let counts = Counts::of_nothing(cells.len());
         let cells = Circle::new(&mut cells[..counts.cells]);
@@ -57,9 +52,10 @@ impl<'a> Ring<'a> {
     }
 
     // Reads a stretch of the oldest finished candidate, from a place on, into memory that is as long.
-    #[tactic(auto, using(crate::proofs::Turns::oldest_short, cells::proofs::Oldest::read_more, crate::proofs::Turns::stretch_answered, crate::proofs::Turns::all_read))]
+    #[tactic(auto, using(crate::proofs::Turns::reads))]
     fn read(&self, place: usize, memory: &mut [u8])
-        requires { (0 < self.now.counts.waiting) × (length memory.old ≤ length (oldest_of (finished_in self.now)) - place) }
+        requires { (0 < self.now.counts.waiting)
+            × (length memory.old ≤ length (oldest_of (finished_in self.now)) - place) }
         ensures answer { stretch_answer (finished_in self.now) place memory.old ≡ Ok tt }
         ensures memory { memory.new ≡ after_stretch (finished_in self.now) place memory.old }
     {
@@ -120,7 +116,7 @@ impl<'a> Hold for Ring<'a> {
         Ok(())
     }
 
-    #[tactic(auto, using(crate::proofs::Turns::finished_behind, crate::proofs::Turns::whole_behind, crate::proofs::Turns::open_behind, crate::proofs::Turns::as_many))]
+    #[tactic(auto, using(crate::proofs::Turns::releases))]
     fn release(&mut self) -> Result<(), Refusal> {
         let codeblocks = self.oldest()? as usize;
         self.cells.advance(codeblocks);
