@@ -3,6 +3,7 @@
 #![tactic(auto)]
 
 ghost use Rattle.std.specs.Prelude.{◌≡◌, Some};
+ghost use Rattle.cltu.specs.Limit.{codeblocks_allowed};
 ghost use Rattle.hold.specs.Candidates.{Showing};
 ghost use Rattle.reception.specs.Reports.{reason_number, reason_word, report_text};
 ghost use Rattle.reception.specs.Decoding.{settings};
@@ -88,8 +89,8 @@ impl fmt::Display for Report {
 /// How many idle bits bring a receiver with these settings back to SEARCH, whatever it received
 /// before: the guard time between commands, in bits. The idle may begin with either bit.
 pub fn recovery_bits(mode: Mode, limit: CodeblockLimit) -> usize
-    ensures value { result ≡ recovery_bits mode limit.count }
-    ensures promise { (showing : Showing) → Promise (settings mode limit.count) showing }
+    ensures value { result ≡ recovery_bits mode (codeblocks_allowed limit) }
+    ensures promise { (showing : Showing) → Promise (settings mode (codeblocks_allowed limit)) showing }
 {
     match mode {
         Mode::Correcting => 64 * limit.count() + 67,
