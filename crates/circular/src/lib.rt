@@ -1,7 +1,7 @@
 //! Places in a circle: after the last comes the first.
 #![tactic(auto)]
 
-ghost use Rattle.std.specs.Prelude.{◌≡◌, ℕ, ◌<◌, ◌≤◌, List, length, IsSome, slice_get, slice_set};
+ghost use Rattle.std.specs.Prelude.{◌≡◌, ◌<◌, ◌≤◌, length, IsSome, slice_get, slice_set};
 ghost use Rattle.std.specs.Option.{option_copied};
 ghost use Rattle.circular.specs.Circle.{round_from, Turned};
 ghost use Rattle.circular.specs.Turns.{in_turn, memory_of, first_of};
