@@ -1,2 +1,3 @@
--- The worked examples, computed. Assumes nothing.
+-- The worked examples, computed, and what follows of a codeblock. Assumes nothing.
 mod Computed
+mod Accepted
