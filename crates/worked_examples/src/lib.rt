@@ -76,6 +76,7 @@ fn passes(vector: &[u8; CODEBLOCK_OCTETS]) -> bool
 /// first seven octets. The test writes that codeblock, and compares; and it judges the vector in both modes, which
 /// accept it then, with its own information.
 #[must_use]
+#[inline(never)]
 #[tactic(auto, using(crate::proofs::Computed::worked_examples))]
 pub fn self_test(vectors: &[[u8; CODEBLOCK_OCTETS]]) -> Option<usize>
     ensures first { FailsFirst vectors.now result }
@@ -89,4 +90,42 @@ pub fn self_test(vectors: &[[u8; CODEBLOCK_OCTETS]]) -> Option<usize>
         }
     }
     None
+}
+
+#[cfg(test)]
+mod tests {
+    use super::*;
+    use std::test::Fail;
+
+    #[test]
+    fn none_fails(rt: HostRuntime) -> Result<(), Fail> {
+        assert!(rt; self_test(&worked_vectors()).is_none());
+        assert!(rt; self_test(&[]).is_none());
+        Ok(())
+    }
+
+    #[test]
+    fn a_vector_with_a_wrong_bit(rt: HostRuntime) -> Result<(), Fail> {
+        for place in 0..4 {
+            for octet in 0..CODEBLOCK_OCTETS {
+                for bit in 0..8u32 {
+                    let mut vectors = worked_vectors();
+                    vectors[place][octet] ^= 1 << bit;
+                    assert!(rt; self_test(&vectors) == Some(place));
+                }
+            }
+        }
+        Ok(())
+    }
+
+    #[test]
+    fn the_first_of_two(rt: HostRuntime) -> Result<(), Fail> {
+        let mut vectors = worked_vectors();
+        vectors[1][7] = 0xFF;
+        vectors[3][0] = 0x54;
+        assert!(rt; self_test(&vectors) == Some(1));
+        assert!(rt; self_test(&vectors[2..]) == Some(1));
+        assert!(rt; self_test(&vectors[..1]).is_none());
+        Ok(())
+    }
 }
