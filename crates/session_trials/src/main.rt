@@ -680,10 +680,10 @@ fn report(rt: &(impl Print + AllocGlobal), setup: Setup, frames: &[u8]) -> Resul
     let limit = setup.limit;
     print!(rt; "PLOP-{plop}, randomizer {random}, idle {idle}, {mode}, L {limit}: ")?;
     print!(rt;
-        "{stretches} stretches, {overfull} of them longer than the hold, {octets} octets, "
+        "{stretches} stretches, {overfull} of them more than the hold takes, {octets} octets, "
     )?;
     println!(rt;
-        "{sent} frames sent, {back} back, {early} of them early, {refused} calls refused"
+        "{sent} frames sent, {back} back, {early} of them before the break, {refused} calls refused"
     )?;
     Ok(differences)
 }

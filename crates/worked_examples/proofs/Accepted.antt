@@ -16,10 +16,15 @@ use Rattle.worked_examples.specs.Vectors.{information_in, IsCodeblock, IsAccepte
 none_wrong : (word : ℕ) → wrong_bits word word ≡ 0
 none_wrong word = ap (λ x. weight 63 (x / 2)) (xor_self word) ∙ weight_zero 63
 
-pub accepted_as_sent : (vector : List ℕ) → length vector ≡ codeblock_octets → ((k : ℕ) → get_or vector k 0 < 256) → IsCodeblock vector → IsAcceptedByBothModes vector
+pub accepted_as_sent :
+    (vector : List ℕ) → length vector ≡ codeblock_octets → ((k : ℕ) → get_or vector k 0 < 256) → IsCodeblock vector
+    → IsAcceptedByBothModes vector
 accepted_as_sent vector n octets is mode =
     let word = number_from_digits 256 vector in
     let below : AllBelowBase 256 vector = All-from_get_or (λ x. x < 256) vector 0 (λ k _. octets k) in
     let few : word < 2 ^ 64 = subst (λ x. word < 256 ^ x) n (number_lt 256 vector below) in
-    let h : Information (information_in vector) = (length-take-le 7 vector (omega arith), All-take (λ x. x < 256) 7 vector below) in
-    undamaged_is_accepted mode word few (information_in vector) h (ap (λ x. wrong_bits (number_from_digits 256 x) word) (sym is) ∙ none_wrong word)
+    let h : Information (information_in vector) =
+    (length-take-le 7 vector (omega arith), All-take (λ x. x < 256) 7 vector below)
+    in
+    undamaged_is_accepted mode word few (information_in vector) h
+    (ap (λ x. wrong_bits (number_from_digits 256 x) word) (sym is) ∙ none_wrong word)

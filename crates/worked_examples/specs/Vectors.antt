@@ -1,5 +1,6 @@
 -- The vectors of a self test: eight octets each, of which seven are information. Assumes nothing.
-use Rattle.std.specs.Prelude.{◌≡◌, ℕ, false, List, [], ◌∷◌, ◌++◌, take, replicate, Some, None, Option, slice_get, IsSomeAnd}
+use Rattle.std.specs.Prelude.{◌≡◌, ℕ, false, List, [], ◌∷◌, ◌++◌, take, replicate}
+use Rattle.std.specs.Prelude.{Some, None, Option, slice_get, IsSomeAnd}
 use Rattle.std.specs.List.{All}
 use Rattle.std.specs.Int.Digits.{number_from_digits}
 use Rattle.bch.specs.declared.Mode.{Mode}

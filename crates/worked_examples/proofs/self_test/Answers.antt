@@ -8,14 +8,19 @@ pub loop-place-preserved : goal.loop-place-preserved
 loop-place-preserved c =
     let vectors = c.args.vectors.now in
     let place = c.loop-place.place in
+    let before = c.loop-place.invariant in
     let passed = c.if-not-passes.ensures in
+    let there = c.loop-place-test.true in
     record {
-      codeblocks = All-more IsCodeblock vectors place [] c.loop-place-test.true c.loop-place.invariant.codeblocks (passed.codeblock.0 refl);
-      accepted = All-more IsAcceptedByBothModes vectors place [] c.loop-place-test.true c.loop-place.invariant.accepted (passed.accepted refl)
+      codeblocks = All-more IsCodeblock vectors place [] there before.codeblocks (passed.codeblock.0 refl);
+      accepted = All-more IsAcceptedByBothModes vectors place [] there before.accepted (passed.accepted refl);
     }
 
 pub returns-clause-first : goal.returns-clause-first
-returns-clause-first c = subst (All IsCodeblock) (take_all _ c.args.vectors.now c.loop-place-test.false) c.loop-place.invariant.codeblocks
+returns-clause-first c =
+    subst (All IsCodeblock) (take_all _ c.args.vectors.now c.loop-place-test.false) c.loop-place.invariant.codeblocks
 
 pub returns-clause-accepted : goal.returns-clause-accepted
-returns-clause-accepted c = subst (All IsAcceptedByBothModes) (take_all _ c.args.vectors.now c.loop-place-test.false) c.loop-place.invariant.accepted
+returns-clause-accepted c =
+    subst (All IsAcceptedByBothModes) (take_all _ c.args.vectors.now c.loop-place-test.false)
+    c.loop-place.invariant.accepted
