@@ -311,6 +311,17 @@ impl<H: Hold + Drop> Link<H> {
         self.bring(rest)
     }
 
+    /// The same, where all that was written has to be the idle octet.
+    fn carry_idle(&mut self, memory: &[u8], octets: usize, expected: usize) -> Result<()> {
+        let idle = match self.setup.idle {
+            IdleOctet::ZeroFirst => 0x55,
+            IdleOctet::OneFirst => 0xAA,
+        };
+        let same = memory.iter().take(octets).all(|octet| *octet == idle);
+        self.compare(same);
+        self.carry(memory, octets, expected)
+    }
+
     /// Brings octets to the receiver, as bits or as soft levels. Every candidate that ends by them is closed, with
     /// nothing corrected.
     fn bring(&mut self, octets: &[u8]) -> Result<()> {
@@ -530,7 +541,9 @@ impl<H: Hold + Drop> Link<H> {
             (after, Job { frame, idle: 0 }, octets)
         } else {
             let job = jobs.front().copied().context("no job waits")?;
+            let others = jobs.len().saturating_sub(1);
             let (after, octets) = answered(locked.run_next(jobs, frames, memory))?;
+            self.compare(jobs.len() == others);
             (after, job, octets)
         };
         self.expect(frames, job.frame)?;
@@ -561,13 +574,13 @@ impl<H: Hold + Drop> Link<H> {
         self.receiver.carrier_up()?;
         let acquisition = self.numbers.below(240).saturating_add(16);
         let (locked, octets) = answered(carrier.acquire(acquisition, memory))?;
-        self.carry(memory, octets, acquisition)?;
+        self.carry_idle(memory, octets, acquisition)?;
         let mut locked = self.refuse_all(locked, frames, memory)?;
         for _ in 0..4 {
             if self.numbers.bit() {
                 let idle = self.numbers.below(60).saturating_add(1);
                 let octets = locked.idle(idle, memory)?;
-                self.carry(memory, octets, idle)?;
+                self.carry_idle(memory, octets, idle)?;
             }
             match self.send(locked, frames, jobs, memory)? {
                 AfterSending::Locked(next) => locked = next,
@@ -583,7 +596,7 @@ impl<H: Hold + Drop> Link<H> {
         self.refuse_idle_behind(&sent, memory)?;
         let idle = self.numbers.below(60).saturating_add(1);
         let octets = sent.idle(idle, memory)?;
-        self.carry(memory, octets, idle)?;
+        self.carry_idle(memory, octets, idle)?;
         self.carrier_down()?;
         Ok(sent.break_modulation())
     }
