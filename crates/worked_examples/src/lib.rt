@@ -1,7 +1,7 @@
 //! Worked examples of the definitions, proved, and a self test that runs the code on vectors in the caller's memory.
 #![tactic(auto)]
 
-ghost use Rattle.std.specs.Prelude.{◌≡◌, ◌↔◌, IsTrue, None, IfNone};
+ghost use Rattle.std.specs.Prelude.{◌≡◌, ◌↔◌, ℕ, IsTrue, Option, None, IfNone};
 ghost use Rattle.std.specs.List.{All};
 ghost use Rattle.std.specs.Int.Digits.{number_from_digits};
 ghost use Rattle.worked_examples.specs.Worked.{WorkedExamples};
@@ -80,6 +80,7 @@ fn passes(vector: &[u8; CODEBLOCK_OCTETS]) -> bool
 #[tactic(auto, using(crate::proofs::Computed::worked_examples))]
 pub fn self_test(vectors: &[[u8; CODEBLOCK_OCTETS]]) -> Option<usize>
     ensures first { FailsFirst vectors.now result }
+    ensures only { (other : Option ℕ) → FailsFirst vectors.now other → other ≡ result }
     ensures accepted { IfNone result (All IsAcceptedByBothModes vectors.now) }
     ensures worked { vectors.now ≡ worked_vectors → result ≡ None }
     ensures examples { WorkedExamples }
