@@ -1,2 +1,3 @@
--- The worked examples. Assumes nothing.
+-- The worked examples, and what a self test answers. Assumes nothing.
+pub mod Vectors
 pub mod Worked

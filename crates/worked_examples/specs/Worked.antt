@@ -17,6 +17,10 @@ use Rattle.cltu.specs.Cltu.{tail_sequence, cltu}
 abbrev pub Ends : List ℕ → ℕ → Type 0
 Ends information last = codeblock information ≡ information ++ last ∷ []
 
+-- the first five octets of the randomizer's sequence
+abbrev pub first_octets : List ℕ
+first_octets = sequence_octet 0 ∷ sequence_octet 1 ∷ sequence_octet 2 ∷ sequence_octet 3 ∷ sequence_octet 4 ∷ []
+
 -- idle is alternating bits: 64 of them from a zero on, and from a one on
 abbrev pub idle_from_zero : ℕ
 idle_from_zero = 0x5555_5555_5555_5555
@@ -37,25 +41,30 @@ InDecode (DECODE r) = Unit {0}
 abbrev pub starts : Mode → ℕ → Bool
 starts mode window = is_start mode 16 window
 
--- bits before the idle after which recovery takes longest in correcting mode: all of a start sequence but its last three bits
+-- bits before the idle after which recovery takes longest in correcting mode: all of a start sequence but its last
+-- three bits
 abbrev pub before_idle : List Bool
-before_idle = true ∷ true ∷ true ∷ false ∷ true ∷ false ∷ true ∷ true ∷ true ∷ false ∷ false ∷ true ∷ false ∷ []
+before_idle =
+    true ∷ true ∷ true ∷ false ∷ true ∷ false ∷ true ∷ true ∷ true ∷ false ∷ false ∷ true ∷ false ∷ []
 
 abbrev pub symbols : List Bool → List Event
 symbols [] = []
 symbols (b ∷ bs) = symbol b ∷ symbols bs
 
--- the state after these and so many idle bits from a zero on, correcting, with a limit of 1 and an empty hold of one codeblock
+-- the state after these and so many idle bits from a zero on, correcting, with a limit of 1 and an empty hold of one
+-- codeblock
 abbrev pub after_idle : ℕ → Phase
 after_idle bits =
-    (after_events (settings Correcting 1) (λ place x. x) (made (record { capacity = 1; finished = []; opened = None })) (carrier_up ∷ symbols (before_idle ++ idle false bits))).phase
+    let empty = made (record { capacity = 1; finished = []; opened = None }) in
+    let events = carrier_up ∷ symbols (before_idle ++ idle false bits) in
+    (after_events (settings Correcting 1) (λ place x. x) empty events).phase
 
 pub record WorkedExamples : Type 0 where
   pub zeros : Ends (replicate 7 0) 0xFE
   pub tail_octets : Ends (replicate 7 0xC5) 0xFE
   pub one : Ends (replicate 6 0 ++ 1 ∷ []) 0x74
   pub fill_octets : Ends (replicate 7 0x55) 0xD6
-  pub randomizer : sequence_octet 0 ∷ sequence_octet 1 ∷ sequence_octet 2 ∷ sequence_octet 3 ∷ sequence_octet 4 ∷ [] ≡ 0xFF ∷ 0x39 ∷ 0x9E ∷ 0x5A ∷ 0x68 ∷ []
+  pub randomizer : first_octets ≡ 0xFF ∷ 0x39 ∷ 0x9E ∷ 0x5A ∷ 0x68 ∷ []
   pub tail_syndrome : syndrome (number_from_digits 256 tail_sequence) ≡ (1, 0)
   pub tail_rejected : (mode : Mode) → verdict mode (number_from_digits 256 tail_sequence) ≡ rejected
   pub idle_from_zero_syndrome : syndrome idle_from_zero ≡ (0, 2)
