@@ -1,0 +1,4 @@
+-- What is written of a pass: read in this order. Assumes nothing.
+pub mod Lines
+pub mod Answers
+pub mod Releasing
