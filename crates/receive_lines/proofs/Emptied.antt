@@ -15,7 +15,7 @@ use Rattle.reception.specs.Searching.{next_count, next_window, is_start}
 use Rattle.reception.specs.Decoding.{Settings, Held, abandoning, Reading, reading, Decoded, goes_on, ends, report, closing, counting_in, decoded_by, with_symbol, read_word}
 use Rattle.reception.specs.Rules.{Phase, INACTIVE, SEARCH, DECODE, State, state, Event, carrier_up, carrier_down, symbol, release, Outcome, quietly, at_window, at_decoded, at_event}
 use Rattle.reception.specs.Runs.{reports_of}
-use Rattle.reception.specs.Promise.{announced_by, announced, new_candidates}
+use Rattle.reception.specs.Finished.{announced_by, announced, new_candidates}
 use Rattle.reception.proofs.Decoding.{IsOpen, held}
 use Rattle.reception.proofs.Kept.{Kept, KeptState, event_keeps}
 use Rattle.receive_lines.specs.Lines.{Line, report_line, reports_among, frames_among, is_closed, AFrameBehindEachClosed}

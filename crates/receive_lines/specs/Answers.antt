@@ -8,7 +8,7 @@ use Rattle.reception.specs.Decoding.{Settings, settings}
 use Rattle.reception.specs.Rules.{State, made, Event, carrier_up, carrier_down}
 use Rattle.reception.specs.Runs.{reports_of}
 use Rattle.reception.specs.Calls.{symbol_events}
-use Rattle.reception.specs.Promise.{new_candidates}
+use Rattle.reception.specs.Finished.{new_candidates}
 use Rattle.pass_record.specs.Record.{IsRecord}
 use Rattle.receive_lines.specs.Lines.{Line, reports_among, frames_among, AFrameBehindEachClosed, whole_text}
 
