@@ -14,7 +14,7 @@ use Rattle.reception.specs.Symbols.{bit_value}
 use Rattle.reception.specs.Searching.{next_count, next_window, is_start}
 use Rattle.reception.specs.Decoding.{Settings, Held, abandoning, Reading, reading, Decoded, goes_on, ends, report, closing, counting_in, decoded_by, with_symbol, read_word}
 use Rattle.reception.specs.Rules.{Phase, INACTIVE, SEARCH, DECODE, State, state, Event, carrier_up, carrier_down, symbol, release, Outcome, quietly, at_window, at_decoded, at_event}
-use Rattle.reception.specs.Runs.{reports_of}
+use Rattle.reception.specs.Runs.{after_events, reports_of}
 use Rattle.reception.specs.Finished.{announced_by, announced, new_candidates}
 use Rattle.reception.proofs.Decoding.{IsOpen, held}
 use Rattle.reception.proofs.Kept.{Kept, KeptState, event_keeps}
@@ -58,12 +58,12 @@ fits_one one opened other space =
     by (Some candidate) Down e = refl
 
 -- the codeblocks that a receiver has taken
-abbrev being_read : Phase → ℕ
+abbrev pub being_read : Phase → ℕ
 being_read INACTIVE = 0
 being_read (SEARCH count window) = 0
 being_read (DECODE r) = r.codeblocks
 
-abbrev taken : State → ℕ
+abbrev pub taken : State → ℕ
 taken s = finished_codeblocks s.held.finished + being_read s.phase
 
 -- the same receiver with nothing finished, over a hold of this capacity
@@ -162,6 +162,20 @@ module _ (settings : Settings) (showing : Showing) (capacity : ℕ) (enough : se
       record { after = refl; fits = fits_one (report Down r.codeblocks r.corrections) h.opened refl (λ z. cc); room = refl; grows = omega arith }
   event_alike p h (symbol b) kept space = symbol_alike p h b kept space
   event_alike p h release kept space = record { after = refl; fits = fits_none; room = refl; grows = omega (arith, fewer h.finished) }
+
+  -- how many codeblocks a run takes: one at an event, or none
+  pub record TakesFew (s : State) (es : List Event) : Type 0 where
+    pub kept : KeptState settings.limit (after_events settings showing s es)
+    pub few : taken (after_events settings showing s es) ≤ taken s + length es
+    pub same : (after_events settings showing s es).held.capacity ≡ s.held.capacity
+
+  pub takes_few : (s : State) (es : List Event) → KeptState settings.limit s → taken s + length es ≤ s.held.capacity → TakesFew s es
+  takes_few s [] kept space = record { kept = kept; few = omega arith; same = refl }
+  takes_few s (e ∷ es) kept space =
+      let one = event_alike s.phase s.held e kept (omega arith) in
+      let next = (at_event settings showing s e).after in
+      let rest = takes_few next es (event_keeps settings showing s e kept) (omega (arith, one.room, one.grows)) in
+      record { kept = rest.kept; few = omega (arith, rest.few, one.grows); same = rest.same ∙ one.room }
 
   -- all events
   pub lines_fit : (s : State) (es : List Event) → KeptState settings.limit s → taken s + length es ≤ s.held.capacity →

@@ -2,3 +2,4 @@
 pub mod Lines
 pub mod Passes
 pub mod Emptied
+pub mod Sent

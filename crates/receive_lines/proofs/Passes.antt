@@ -26,7 +26,7 @@ use Rattle.pass_record.specs.Segments.{symbols_in}
 use Rattle.receive_lines.specs.declared.pass_log.PassLog.{PassLog}
 use Rattle.receive_lines.specs.declared.receiving.Receiving.{Receiving}
 use Rattle.receive_lines.specs.Lines.{Line, line_text, text_of, reports_among, frames_among}
-use Rattle.receive_lines.specs.Answers.{segment_events, pass_events}
+use Rattle.receive_lines.specs.Pass.{segment_events, pass_events}
 use Rattle.receive_lines.specs.Releasing.{lines_for, after_telling, lines_told, after_outcome, after_run, lines_of, Writes, Tells, Passed}
 use Rattle.receive_lines.proofs.Lines.{reports_among_append, frames_among_append}
 

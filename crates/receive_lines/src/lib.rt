@@ -6,7 +6,8 @@ ghost use Rattle.reception.specs.Rules.{made};
 ghost use Rattle.pass_record.specs.Segments.{segments_in};
 ghost use Rattle.decoding.specs.Meaning.{rules_of, held_in};
 ghost use Rattle.receive_lines.specs.Lines.{whole_text};
-ghost use Rattle.receive_lines.specs.Answers.{rules, pass_events, IsTextOf, Answers};
+ghost use Rattle.receive_lines.specs.Pass.{rules, pass_events};
+ghost use Rattle.receive_lines.specs.Answers.{IsTextOf, Answers};
 ghost use Rattle.receive_lines.specs.Releasing.{lines_of};
 
 use bch::Mode;

@@ -26,7 +26,7 @@ impl<H: Hold> Receiving<'_, H> {
     ghost use Rattle.reception.specs.Rules.{symbol, carrier_down};
     ghost use Rattle.reception.specs.Calls.{symbol_events};
     ghost use Rattle.pass_record.specs.Segments.{segments_in, symbols_in};
-    ghost use Rattle.receive_lines.specs.Answers.{segment_events, pass_events};
+    ghost use Rattle.receive_lines.specs.Pass.{segment_events, pass_events};
     ghost use Rattle.receive_lines.specs.Releasing.{Tells, Passed};
 
     // Writes what a report tells. A candidate that was finished is written too, and released.

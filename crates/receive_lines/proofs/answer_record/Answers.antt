@@ -5,6 +5,7 @@ use Rattle.std.proofs.lemmas.Result.{IfOk-weaker}
 use Rattle.refusals.specs.Numbers.{refusal_text}
 use Rattle.pass_record.specs.Segments.{segments_in}
 use Rattle.receive_lines.specs.Answers.{IsTextOf, Answers}
+use Rattle.receive_lines.proofs.Sent.{what_is_sent_is_written}
 use Rattle.receive_lines.proofs.answer_record.Goals as goal
 
 pub returns-in-Ok : goal.returns-in-Ok
@@ -13,6 +14,7 @@ returns-in-Ok c =
     IfOk-weaker c.pass_text.result (λ s. IsTextOf (segments_in c.in-Ok.pass) (string_bytes s)) (λ s. Answers c.args.octets.now (string_bytes s))
     (λ s text. record {
       read = λ segments record_of. subst (λ l. IsTextOf l (string_bytes s)) (known.one _ segments known.answer record_of) text;
+      sent = λ sent within record_of. what_is_sent_is_written sent (string_bytes s) within (subst (λ l. IsTextOf l (string_bytes s)) (known.one _ _ known.answer record_of) text);
       refused = λ none. absurd (none _ known.answer);
     })
     c.pass_text.ensures
@@ -27,6 +29,7 @@ returns-in-Err c =
     IfOk-weaker c.format.result (λ s. string_bytes s ≡ refusal_text c.in-Err.refusal ++ codes "\n") (λ s. Answers c.args.octets.now (string_bytes s))
     (λ s text. record {
       read = λ segments record_of. absurd (known.none segments record_of);
+      sent = λ sent within record_of. absurd (known.none _ record_of);
       refused = λ none. text ∙ ap (λ why. refusal_text why ++ codes "\n") known.reason ∙ ap (λ digits. codes "refused " ++ digits ++ codes "\n") sixteen;
     })
     c.format.ensures.ok

@@ -6,7 +6,8 @@ use Rattle.reception.specs.Rules.{INACTIVE, state}
 use Rattle.reception.proofs.Decoding.{held}
 use Rattle.pass_record.specs.Segments.{segments_in}
 use Rattle.receive_lines.specs.Lines.{whole_text}
-use Rattle.receive_lines.specs.Answers.{rules, pass_events, ready_for, IsTextOf}
+use Rattle.receive_lines.specs.Pass.{rules, pass_events, ready_for}
+use Rattle.receive_lines.specs.Answers.{IsTextOf}
 use Rattle.receive_lines.specs.Releasing.{lines_of}
 use Rattle.receive_lines.proofs.Emptied.{emptied, lines_fit}
 use Rattle.receive_lines.proofs.pass_text.Goals as goal

@@ -1,7 +1,7 @@
 -- One segment more. Assumes nothing.
 use Rattle.std.proofs.Common.{map}
 use Rattle.pass_record.specs.Segments.{symbols_in}
-use Rattle.receive_lines.specs.Answers.{segment_events, pass_events}
+use Rattle.receive_lines.specs.Pass.{segment_events, pass_events}
 use Rattle.receive_lines.proofs.Passes.{passed_as, passed_then, one_more_segment}
 use Rattle.receive_lines.proofs.receiving.Receiving.take_pass.Goals as goal
 

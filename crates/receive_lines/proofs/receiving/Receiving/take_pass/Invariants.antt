@@ -1,7 +1,7 @@
 -- What holds after some of them. Assumes nothing.
 use Rattle.std.proofs.Common.{map}
 use Rattle.pass_record.specs.Segments.{symbols_in}
-use Rattle.receive_lines.specs.Answers.{pass_events}
+use Rattle.receive_lines.specs.Pass.{pass_events}
 use Rattle.receive_lines.specs.Releasing.{Passed}
 use Rattle.receive_lines.proofs.receiving.Receiving.take_pass.Given as goal
 
