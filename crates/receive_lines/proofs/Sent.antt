@@ -1,27 +1,36 @@
 -- What arrives within the allowance is written. Assumes nothing.
-use Rattle.std.proofs.Common.{◌≡◌, ℕ, suc, ◌+◌, ◌*◌, ◌≤◌, Bool, true, false, List, [], ◌∷◌, ◌++◌, map, length, None, sym, refl, ap, ◌∙◌, subst, ap₂, append_assoc, append-nil, arith}
+use Rattle.std.proofs.Common.{◌≡◌, ℕ, suc, ◌+◌, ◌≤◌, Bool, true, false, List, [], ◌∷◌, ◌++◌, map, length, None, sym, refl, ap, ◌∙◌, subst, ap₂, append-nil, arith}
 use Rattle.std.specs.List.{flat_map, AllByRecursion}
 use Rattle.std.proofs.lemmas.List.{length-append, map-append}
-use Rattle.std.proofs.lemmas.Grind.{flat_map-append}
+use Rattle.std.specs.Int.Digits.{AllBelowBase}
 use Rattle.bch.specs.declared.Mode.{Mode}
-use Rattle.hold.specs.Candidates.{Candidate, Showing, open_codeblocks, finished_codeblocks, shown_from}
+use Rattle.bch.specs.declared.Mode.TheVariants.{Detecting}
+use Rattle.bch.specs.Bits.{bits_of}
+use Rattle.randomizer.specs.declared.Randomizer.{Randomizer}
+use Rattle.randomizer.specs.Sequence.{randomized}
+use Rattle.randomizer.proofs.Laws.{octets_stay_octets}
+use Rattle.cltu.specs.Cltu.{codeblocks_for, filled, cltu}
+use Rattle.hold.specs.Candidates.{Candidate, open_codeblocks, shown_from}
 use Rattle.hold.specs.Plain.{plain_showing}
 use Rattle.reception.specs.declared.Report.{Report}
-use Rattle.reception.specs.Decoding.{Settings, Held, room}
-use Rattle.reception.specs.Rules.{Phase, INACTIVE, SEARCH, DECODE, State, state, Event, carrier_up, carrier_down}
-use Rattle.reception.specs.Runs.{after_events, reports_of, idle}
+use Rattle.reception.specs.declared.Reason.TheVariants.{Closed}
+use Rattle.reception.specs.Decoding.{settings, Held, room, report}
+use Rattle.reception.specs.Rules.{Phase, INACTIVE, SEARCH, DECODE, State, state, Event, carrier_down}
+use Rattle.reception.specs.Runs.{after_events, idle}
 use Rattle.reception.specs.Calls.{symbol_events}
-use Rattle.reception.specs.Allowance.{BlocksWithin, ReceivedCltu, symbols_of}
-use Rattle.reception.specs.Finished.{new_candidates}
+use Rattle.reception.specs.Allowance.{BlocksWithin, wrong_in, symbols_of, undamaged}
 use Rattle.reception.proofs.Brings.{Goes, goes_then}
 use Rattle.reception.proofs.Joined.{runs_are_joined}
 use Rattle.reception.proofs.Kept.{Kept, KeptState}
-use Rattle.reception.proofs.Sent.{idle_gap, one_cltu}
+use Rattle.reception.proofs.Sent.{idle_gap, one_cltu, under_filled}
+use Rattle.reception.proofs.Undamaged.{as_sent_is_within_the_allowance}
+use Rattle.pass_record.specs.Record.{IsRecord, OneListOfSegments}
 use Rattle.receiver.proofs.Decided.{events_append}
-use Rattle.receive_lines.specs.Lines.{Line, report_line, frame_line, reports_among, frames_among, is_closed, AFrameBehindEachClosed, whole_text}
+use Rattle.receive_lines.specs.Lines.{report_line, frame_line, reports_among, frames_among, AFrameBehindEachClosed, whole_text}
 use Rattle.receive_lines.specs.Pass.{segment_events, pass_events, rules, ready_for}
 use Rattle.receive_lines.specs.Sent.{SentCltu, SentSegment, symbols_before, segment_of, ArrivesWithin, AllArriveWithin, report_of, lines_of_cltu, all_cltus, lines_of_sent}
-use Rattle.receive_lines.specs.Answers.{IsTextOf}
+use Rattle.receive_lines.specs.Answers.{IsTextOf, lines_alone, Answers}
+use Rattle.receive_lines.proofs.Lines.{lines_are_determined}
 use Rattle.receive_lines.proofs.Emptied.{taken, takes_few}
 
 abbrev information_of : SentCltu → List ℕ
@@ -97,20 +106,20 @@ cltus_come (c ∷ cs) first bits h within none space =
     let there = state (SEARCH w.count w.window) w.hold in
     let space_there = subst (λ t. Spacious t (length (cltu ++ rest))) w.after (spacious_after s gap (cltu ++ rest) space_here) in
     let fits : length c.received.blocks ≤ room w.hold =
-        omega (arith, room_left (SEARCH w.count w.window) w.hold space_there.0, space_there.1, length-append cltu rest, length_events (symbols_of c.received), long_cltu c within.0) in
+    omega (arith, room_left (SEARCH w.count w.window) w.hold space_there.0, space_there.1, length-append cltu rest, length_events (symbols_of c.received), long_cltu c within.0) in
     let one = one_cltu rules plain_showing w.next w.count w.window w.hold c.information c.received cltu w.opened w.calm within.0.octets
-        (joined.up_called (symbols_of c.received)) (joined.symbols_called (symbols_of c.received)) within.0.within fits in
+    (joined.up_called (symbols_of c.received)) (joined.symbols_called (symbols_of c.received)) within.0.within fits in
     let space_then = subst (λ t. Spacious t (length rest)) one.goes.after (spacious_after there cltu rest space_there) in
     let more = cltus_come cs first bits one.hold within.1 one.opened space_then in
     let shown : Goes rules plain_showing there cltu (state (SEARCH 0 0) one.hold) (c.information ∷ []) (report_of c ∷ []) =
-        record { after = one.goes.after; news = one.goes.news ∙ ap (λ x. x ∷ []) (shown_plainly 0 c.information); reports = one.goes.reports } in
+    record { after = one.goes.after; news = one.goes.news ∙ ap (λ x. x ∷ []) (shown_plainly 0 c.information); reports = one.goes.reports } in
     record {
       count = more.count;
       window = more.window;
       hold = more.hold;
       opened = more.opened;
-      goes = goes_then rules plain_showing {fs = gap} {gs = cltu ++ rest} whole (record { after = w.after; news = w.new; reports = w.told })
-          (goes_then rules plain_showing {fs = cltu} {gs = rest} refl shown more.goes);
+      goes = goes_then rules plain_showing {u = state (SEARCH more.count more.window) more.hold} {fs = gap} {gs = cltu ++ rest} whole (record { after = w.after; news = w.new; reports = w.told })
+          (goes_then rules plain_showing {u = state (SEARCH more.count more.window) more.hold} {fs = cltu} {gs = rest} refl shown more.goes);
     }
 
 -- a segment, and all
@@ -125,7 +134,7 @@ segment_comes segment h within none space =
     let es = symbol_events (segment_of segment) in
     let w = cltus_come segment.cltus segment.first segment.bits h within none ((none, omega arith), omega (arith, space.1, length-append es (carrier_down ∷ []))) in
     let down : Goes rules plain_showing (state (SEARCH w.count w.window) w.hold) (carrier_down ∷ []) (state INACTIVE w.hold) [] [] = record { after = refl; news = refl; reports = refl } in
-    let all = goes_then rules plain_showing {fs = es} {gs = carrier_down ∷ []} refl w.goes down in
+    let all = goes_then rules plain_showing {u = state INACTIVE w.hold} {fs = es} {gs = carrier_down ∷ []} refl w.goes down in
     record {
       hold = w.hold;
       opened = w.opened;
@@ -141,7 +150,7 @@ segments_come (segment ∷ sent) h within none space =
     let fs = pass_events (map segment_of sent) in
     let one = segment_comes segment h within.0 none (space.0, omega (arith, space.1, length-append es fs)) in
     let rest = segments_come sent one.hold within.1 one.opened (subst (λ t. Spacious t (length fs)) one.goes.after (spacious_after s es fs space)) in
-    let all = goes_then rules plain_showing {fs = es} {gs = fs} refl one.goes rest.goes in
+    let all = goes_then rules plain_showing {u = state INACTIVE rest.hold} {fs = es} {gs = fs} refl one.goes rest.goes in
     record {
       hold = rest.hold;
       opened = rest.opened;
@@ -153,28 +162,63 @@ segments_come (segment ∷ sent) h within none space =
           };
     }
 
--- lines are determined by what they tell and show, and by their order
-lines_are : (lines : List Line) (cs : List SentCltu) → AFrameBehindEachClosed false lines → reports_among lines ≡ map report_of cs → frames_among lines ≡ map information_of cs →
-    lines ≡ flat_map lines_of_cltu cs
-lines_are [] [] order told shown = refl
-lines_are [] (c ∷ cs) order told shown = absurd (let z : ◌≡◌ {A = ℕ} 0 1 = cc in omega arith)
-lines_are (frame_line candidate ∷ lines) cs order told shown = absurd (let z : ◌≡◌ {A = ℕ} 0 1 = cc in omega arith)
-lines_are (report_line one ∷ lines) [] order told shown = absurd (let z : ◌≡◌ {A = ℕ} 0 1 = cc in omega arith)
-lines_are (report_line one ∷ []) (c ∷ cs) order told shown = absurd (let z : ◌≡◌ {A = ℕ} 0 1 = cc in omega arith)
-lines_are (report_line one ∷ report_line two ∷ lines) (c ∷ cs) order told shown =
-    let same : one ≡ report_of c = cc in
-    let due : is_closed one.reason ≡ true = ap (λ x. is_closed x.reason) same in
-    absurd (let z : ◌≡◌ {A = ℕ} 0 1 = cc in omega arith)
-lines_are (report_line one ∷ frame_line candidate ∷ lines) (c ∷ cs) order told shown =
-    let same : one ≡ report_of c = cc in
-    let frame : candidate ≡ c.information = cc in
-    let later : reports_among lines ≡ map report_of cs = cc in
-    let behind : frames_among lines ≡ map information_of cs = cc in
-    let rest = lines_are lines cs order.1.1 later behind in
-    ap₂ (λ x y. report_line x ∷ frame_line y ∷ lines) same frame ∙ ap (λ l. lines_of_cltu c ++ l) rest
+-- the lines that come of CLTUs
+tells_sent : (cs : List SentCltu) → reports_among (flat_map lines_of_cltu cs) ≡ map report_of cs
+tells_sent [] = refl
+tells_sent (c ∷ cs) = ap (λ l. report_of c ∷ l) (tells_sent cs)
+
+shows_sent : (cs : List SentCltu) → frames_among (flat_map lines_of_cltu cs) ≡ map information_of cs
+shows_sent [] = refl
+shows_sent (c ∷ cs) = ap (λ l. c.information ∷ l) (shows_sent cs)
+
+sent_in_order : (cs : List SentCltu) → AFrameBehindEachClosed false (flat_map lines_of_cltu cs)
+sent_in_order [] = refl
+sent_in_order (c ∷ cs) = (refl, (refl, sent_in_order cs))
 
 pub what_is_sent_is_written : (sent : List SentSegment) (text : List ℕ) → AllByRecursion AllArriveWithin sent → IsTextOf (map segment_of sent) text → text ≡ whole_text (lines_of_sent sent)
 what_is_sent_is_written sent text within is =
     let events = pass_events (map segment_of sent) in
     let all = segments_come sent (ready_for events).held within refl (refl, omega arith) in
-    is.written ∙ ap whole_text (lines_are is.lines (all_cltus sent) is.order (is.reports ∙ all.goes.reports) (is.frames ∙ all.goes.news))
+    let cs = all_cltus sent in
+    is.written ∙ ap whole_text (lines_are_determined false is.lines (lines_of_sent sent) is.order (sent_in_order cs)
+    (is.reports ∙ all.goes.reports ∙ sym (tells_sent cs)) (is.frames ∙ all.goes.news ∙ sym (shows_sent cs)))
+
+-- ---- a frame alone
+
+-- none wrong where none may be
+none_wrong : (octets : List ℕ) (blocks : List (List Bool)) → BlocksWithin Detecting octets blocks → wrong_in octets blocks ≡ 0
+none_wrong octets [] within = refl
+none_wrong octets (block ∷ blocks) within = omega (arith, within.1, none_wrong _ blocks within.2)
+
+alone : Randomizer → List ℕ → SentSegment
+alone randomizer frame =
+    record {
+      cltus = record { first = true; bits = 0; information = randomized randomizer (filled frame); received = undamaged randomizer frame } ∷ [];
+      first = true;
+      bits = 0;
+    }
+
+pub an_undamaged_frame_is_written : (randomizer : Randomizer) (frame text : List ℕ) → AllBelowBase 256 frame → 1 ≤ length frame → codeblocks_for (length frame) ≤ rules.limit →
+    IsTextOf (bits_of (cltu randomizer frame) ∷ []) text → text ≡ whole_text (lines_alone randomizer frame)
+unfolding alone
+an_undamaged_frame_is_written randomizer frame text octets some few is =
+    let information = randomized randomizer (filled frame) in
+    let received = undamaged randomizer frame in
+    let sound = as_sent_is_within_the_allowance rules randomizer frame octets some few in
+    let exact = as_sent_is_within_the_allowance (settings Detecting rules.limit) randomizer frame octets some few in
+    let symbols : bits_of (cltu randomizer frame) ≡ symbols_of received ++ [] = sym sound.1 ∙ sym (append-nil (symbols_of received)) in
+    let within : ArrivesWithin (record { first = true; bits = 0; information = information; received = received }) =
+    record { octets = octets_stay_octets randomizer 0 (filled frame) (under_filled frame octets); within = sound.0 } in
+    what_is_sent_is_written (alone randomizer frame ∷ []) text ((within, tt), tt) (subst (λ l. IsTextOf (l ∷ []) text) symbols is)
+    ∙ ap₂ (λ m k. whole_text (report_line (report Closed m k) ∷ frame_line information ∷ [])) sound.2 (none_wrong information received.blocks exact.0.blocks_right)
+
+-- the text of the one list of segments that octets are a record of
+pub answers_of : (octets text : List ℕ) (segments : List (List Bool)) → IsRecord octets segments → OneListOfSegments octets → IsTextOf segments text → Answers octets text
+answers_of octets text segments record_of one is =
+    let is_of = λ (other : List (List Bool)) (record_too : IsRecord octets other). subst (λ l. IsTextOf l text) (one segments other record_of record_too) is in
+    record {
+      read = is_of;
+      sent = λ sent within record_too. what_is_sent_is_written sent text within (is_of (map segment_of sent) record_too);
+      alone = λ randomizer frame below some few record_too. an_undamaged_frame_is_written randomizer frame text below some few (is_of (bits_of (cltu randomizer frame) ∷ []) record_too);
+      refused = λ none. absurd (none segments record_of);
+    }

@@ -1,5 +1,5 @@
 -- A pass in which each CLTU arrives within the allowance, and the lines that come of it. Assumes nothing.
-use Rattle.std.specs.Prelude.{◌≡◌, ℕ, Bool, List, [], ◌∷◌, ◌++◌, map, length}
+use Rattle.std.specs.Prelude.{ℕ, Bool, List, [], ◌∷◌, ◌++◌, length}
 use Rattle.std.specs.Int.Digits.{AllBelowBase}
 use Rattle.std.specs.List.{flat_map, AllByRecursion}
 use Rattle.reception.specs.declared.Reason.TheVariants.{Closed}

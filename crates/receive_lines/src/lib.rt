@@ -7,7 +7,7 @@ ghost use Rattle.pass_record.specs.Segments.{segments_in};
 ghost use Rattle.decoding.specs.Meaning.{rules_of, held_in};
 ghost use Rattle.receive_lines.specs.Lines.{whole_text};
 ghost use Rattle.receive_lines.specs.Pass.{rules, pass_events};
-ghost use Rattle.receive_lines.specs.Answers.{IsTextOf, Answers};
+ghost use Rattle.receive_lines.specs.Answers.{IsTextOf, OneText, Answers};
 ghost use Rattle.receive_lines.specs.Releasing.{lines_of};
 
 use bch::Mode;
@@ -65,7 +65,8 @@ fn pass_text(heap: Global, pass: PassRecord<'_>) -> Result<String, AllocError>
 /// frames there were. `refused 16` alone where the octets are no pass record. The receiver corrects
 /// wrong bits, takes at most 37 codeblocks in a CLTU, and has a ring of 37 cells.
 pub fn answer_record(heap: Global, octets: &[u8]) -> Result<String, AllocError>
-    ensures { IfOk result (λ s. Answers octets.now (string_bytes s)) }
+    ensures answers { IfOk result (λ s. Answers octets.now (string_bytes s)) }
+    ensures one { OneText }
 {
     match PassRecord::read(octets) {
         Ok(pass) => pass_text(heap, pass),
