@@ -25,3 +25,5 @@ pub past_comes : {X : Type 0} (xs : List X) (i n : ℕ) → n ≤ i → take (n 
 past_comes xs i n h =
     let none : n - i ≡ 0 = omega arith in
     ap (λ k. take k (drop i xs)) none
+
+pub ruleset coming = (one_comes, none_comes, none_after, past_comes)

@@ -6,7 +6,9 @@ use Rattle.pass_record.specs.Record.{octets_for, IsRecord}
 
 -- the number in the four octets from a place on, the highest first
 abbrev pub number_at : List ℕ → ℕ → ℕ
-number_at octets place = slice_index octets place * 16777216 + slice_index octets (place + 1) * 65536 + slice_index octets (place + 2) * 256 + slice_index octets (place + 3)
+number_at octets place =
+    slice_index octets place * 16777216 + slice_index octets (place + 1) * 65536 + slice_index octets (place + 2) * 256
+    + slice_index octets (place + 3)
 
 -- the bits of the last octet that so many symbols leave unused
 abbrev pub unused : ℕ → ℕ

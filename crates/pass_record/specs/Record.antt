@@ -9,7 +9,8 @@ weighed weight symbols place = cond (slice_index_or symbols place false) weight 
 -- the first eight symbols in an octet, the first in its most significant bit
 abbrev pub octet_of : List Bool → ℕ
 octet_of s =
-    weighed 128 s 0 + weighed 64 s 1 + weighed 32 s 2 + weighed 16 s 3 + weighed 8 s 4 + weighed 4 s 5 + weighed 2 s 6 + weighed 1 s 7
+    weighed 128 s 0 + weighed 64 s 1 + weighed 32 s 2 + weighed 16 s 3 + weighed 8 s 4 + weighed 4 s 5 + weighed 2 s 6
+    + weighed 1 s 7
 
 -- how many octets hold so many symbols, eight to an octet
 abbrev pub octets_for : ℕ → ℕ
@@ -35,7 +36,8 @@ entries place (segment ∷ rest) = entry place segment ++ entries (place + lengt
 -- all segments, their entries, how many entries there are, and the place of the first
 abbrev pub record_of : List (List Bool) → List ℕ
 record_of segments =
-    flat_map packed segments ++ (entries 0 segments ++ (four_octets (length segments) ++ four_octets (length (flat_map packed segments))))
+    flat_map packed segments
+    ++ (entries 0 segments ++ (four_octets (length segments) ++ four_octets (length (flat_map packed segments))))
 
 -- these octets are the record of these segments, none of which is empty
 pub record IsRecord (octets : List ℕ) (segments : List (List Bool)) : Type 0 where

@@ -20,10 +20,12 @@ symbols_in segment = take segment.symbols (bits_of segment.octets.now)
 
 -- the segments of a record that are still to come, and the symbols of a segment
 abbrev pub segments_left : Segments → List (List Bool)
-segments_left to_come = take (to_come.places.end - to_come.places.start) (drop to_come.places.start (segments_in to_come.pass))
+segments_left to_come =
+    take (to_come.places.end - to_come.places.start) (drop to_come.places.start (segments_in to_come.pass))
 
 abbrev pub symbols_left : Bits → List Bool
-symbols_left to_come = take (to_come.places.end - to_come.places.start) (drop to_come.places.start (symbols_in to_come.segment))
+symbols_left to_come =
+    take (to_come.places.end - to_come.places.start) (drop to_come.places.start (symbols_in to_come.segment))
 
 -- why octets are refused, and that no segments make them a record
 pub record RefusedLayout (octets : List ℕ) (why : Refusal) : Type 0 where

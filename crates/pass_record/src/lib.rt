@@ -87,7 +87,8 @@ fn zero_padded(last: u8, symbols: u32) -> bool
 
 // Where the segment i ends, if its entry is right and tells that it begins at this place.
 fn segment_end(octets: &[u8], i: u32, begin: u32) -> Option<u32>
-    ensures { MatchOption result (RightEntry octets.now i begin → ⊥) (λ end. RightEntry octets.now i begin × (end ≡ begin + octets_for (told_size octets.now i))) }
+    ensures { MatchOption result (RightEntry octets.now i begin → ⊥)
+        (λ end. RightEntry octets.now i begin × (end ≡ begin + octets_for (told_size octets.now i))) }
 {
     let entry = told_entry(octets, i);
     let end = begin.checked_add(entry.symbols.div_ceil(8))?;
@@ -122,7 +123,8 @@ impl<'a> PassRecord<'a> {
     /// a pass record, whatever its segments.
     #[tactic(auto, using(crate::proofs::Places::one_list_of_segments))]
     pub fn read(octets: &'a [u8]) -> Result<PassRecord<'a>, Refusal>
-        ensures answer { MatchResult result (λ pass. IsRecord octets.now (segments_in pass)) (RefusedLayout octets.now) }
+        ensures answer { MatchResult result
+            (λ pass. IsRecord octets.now (segments_in pass)) (RefusedLayout octets.now) }
         ensures one { OneListOfSegments octets.now }
     {
         if is_laid_out(octets) {
@@ -228,7 +230,7 @@ impl<'a> Iterator for Segments<'a> {
 
     ghost remaining = { item_count segments_left };
 
-    #[tactic(auto, using(crate::proofs::Coming::one_comes, crate::proofs::Coming::none_comes, crate::proofs::Coming::none_after, crate::proofs::Coming::past_comes))]
+    #[tactic(auto, using(crate::proofs::Coming::coming))]
     fn next(&mut self) -> Option<Segment<'a>> {
         let place = self.places.next()?;
         self.pass.segment(place)
@@ -251,7 +253,7 @@ impl Iterator for Bits<'_> {
 
     ghost remaining = { item_count symbols_left };
 
-    #[tactic(auto, using(crate::proofs::Coming::one_comes, crate::proofs::Coming::none_comes, crate::proofs::Coming::none_after, crate::proofs::Coming::past_comes))]
+    #[tactic(auto, using(crate::proofs::Coming::coming))]
     fn next(&mut self) -> Option<bool> {
         let place = self.places.next()?;
         self.segment.bit(place)

@@ -1,5 +1,5 @@
--- A receiver whose candidates are released as soon as they are finished tells what one tells that releases nothing and never fills.
--- Assumes nothing.
+-- A receiver whose candidates are released as soon as they are finished tells what one tells that releases nothing and
+-- never fills. Assumes nothing.
 use Rattle.std.proofs.Common.{◌≡◌, ◌≢◌, ℕ, zero, suc, ◌+◌, ◌<◌, ◌≤◌, Bool, true, false, cond, eqb, leb, List, [], ◌∷◌, ◌++◌, length, Some, None, Option, sym, refl, ◌∙◌, subst, ap₂, arith}
 use Rattle.std.specs.List.{AllByRecursion}
 use Rattle.std.proofs.ByRecursion.{All-append}

@@ -16,8 +16,8 @@ use Rattle.receive_lines.specs.Lines.{Line, report_line, frame_line, reports_amo
 use Rattle.receive_lines.specs.Pass.{pass_events, rules, ready_for}
 use Rattle.receive_lines.specs.Sent.{SentSegment, segment_of, AllArriveWithin, lines_of_sent}
 
--- the text for these segments: its lines tell what the receiver reports of their events, over a hold that alters no octet
--- and never fills, and show each candidate that it finishes behind the report of it
+-- the text for these segments: its lines tell what a receiver reports of their events, over a hold that alters no
+-- octet and never fills, and show each candidate that it finishes, behind the report of it
 pub record IsTextOf (segments : List (List Bool)) (text : List ℕ) : Type 0 where
   pub lines : List Line
   pub written : text ≡ whole_text lines
@@ -35,10 +35,11 @@ OneText = (segments : List (List Bool)) (a b : List ℕ) → IsTextOf segments a
 -- one report and one frame: closed with all codeblocks and no correction, and the frame with its fill as it was sent
 abbrev pub lines_alone : Randomizer → List ℕ → List Line
 lines_alone randomizer frame =
-    report_line (report Closed (codeblocks_for (length frame)) 0) ∷ frame_line (randomized randomizer (filled frame)) ∷ []
+    report_line (report Closed (codeblocks_for (length frame)) 0)
+    ∷ (frame_line (randomized randomizer (filled frame)) ∷ [])
 
--- the text for a record of some segments; where all that they bring arrived within the allowance; where one segment is the
--- CLTU of a frame, undamaged; and for what is no record
+-- the text for a record of some segments; of segments in which all arrived within the allowance; of one segment that is
+-- the CLTU of a frame, undamaged; and for what is no record
 pub record Answers (octets text : List ℕ) : Type 0 where
   pub read : (segments : List (List Bool)) → IsRecord octets segments → IsTextOf segments text
   pub sent : (sent : List SentSegment) → AllByRecursion AllArriveWithin sent → IsRecord octets (map segment_of sent) →

@@ -13,7 +13,8 @@ pub data Line : Type 0 where
   report_line : Report → Line
   frame_line : Candidate → Line
 
--- of a report the reason, the codeblocks and the corrections; of a candidate how many octets it has, and these in capitals
+-- of a report the reason, the codeblocks and the corrections; of a candidate how many octets it has, and these in
+-- capitals
 abbrev pub line_text : Line → List ℕ
 line_text (report_line one) = report_text one ++ codes "\n"
 line_text (frame_line candidate) =
@@ -43,7 +44,8 @@ is_closed Down = false
 -- a frame stands directly behind each *closed* and nowhere else; `due` says whether one is due at the beginning
 abbrev pub AFrameBehindEachClosed : (due : Bool) → List Line → Type 0
 AFrameBehindEachClosed due [] = due ≡ false
-AFrameBehindEachClosed due (report_line one ∷ lines) = (due ≡ false) × AFrameBehindEachClosed (is_closed one.reason) lines
+AFrameBehindEachClosed due (report_line one ∷ lines) =
+    (due ≡ false) × AFrameBehindEachClosed (is_closed one.reason) lines
 AFrameBehindEachClosed due (frame_line candidate ∷ lines) = (due ≡ true) × AFrameBehindEachClosed false lines
 
 -- last, how many reports and frames there were

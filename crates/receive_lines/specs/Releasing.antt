@@ -17,7 +17,8 @@ abbrev pub oldest_line : List Candidate → List Line
 oldest_line [] = []
 oldest_line (oldest ∷ rest) = frame_line oldest ∷ []
 
--- the lines for reports, and the state when these are written: behind *closed* comes the oldest candidate, which is released
+-- the lines for reports, and the state when these are written: behind *closed* comes the oldest candidate, which is
+-- released
 abbrev pub lines_at : State → Report → List Line
 lines_at s one = report_line one ∷ cond (is_closed one.reason) (oldest_line s.held.finished) []
 
@@ -55,20 +56,21 @@ pub record Writes (more : List Line) (before after : PassLog) : Type 0 where
   pub frames : after.frames ≡ before.frames + length (frames_among more)
 
 -- a receiver comes to a state, and lines are written; the settings stay
-pub record GoesOn {X : Type 0} (hold : Ghosts X) (before after : Receiving X hold) (to : State) (more : List Line) : Type 0 where
-  pub settings : settings_of after.receiver ≡ settings_of before.receiver
-  pub come : state_of hold after.receiver ≡ to
-  pub written : Writes more before.log after.log
+module _ {X : Type 0} (hold : Ghosts X) where
+  pub record GoesOn (before after : Receiving X hold) (to : State) (more : List Line) : Type 0 where
+    pub settings : settings_of after.receiver ≡ settings_of before.receiver
+    pub come : state_of hold after.receiver ≡ to
+    pub written : Writes more before.log after.log
 
--- reports are told
-abbrev pub Tells : {X : Type 0} → (hold : Ghosts X) → List Report → (before after : Receiving X hold) → Type 0
-Tells hold reports before after =
-    let s = state_of hold before.receiver in
-    GoesOn hold before after (after_telling s reports) (lines_for s reports)
+  -- reports are told
+  abbrev pub Tells : List Report → (before after : Receiving X hold) → Type 0
+  Tells reports before after =
+      let s = state_of hold before.receiver in
+      GoesOn before after (after_telling s reports) (lines_for s reports)
 
--- events pass, with all told that they make
-abbrev pub Passed : {X : Type 0} → (hold : Ghosts X) → List Event → (before after : Receiving X hold) → Type 0
-Passed hold events before after =
-    let rules = rules_of (settings_of before.receiver) in
-    let s = state_of hold before.receiver in
-    GoesOn hold before after (after_run rules hold.showing s events) (lines_of rules hold.showing s events)
+  -- events pass, with all told that they make
+  abbrev pub Passed : List Event → (before after : Receiving X hold) → Type 0
+  Passed events before after =
+      let rules = rules_of (settings_of before.receiver) in
+      let s = state_of hold before.receiver in
+      GoesOn before after (after_run rules hold.showing s events) (lines_of rules hold.showing s events)

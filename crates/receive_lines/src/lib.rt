@@ -38,7 +38,8 @@ fn text_over<H: Hold + Drop>(
     hold: H,
     pass: PassRecord<'_>,
 ) -> Result<String, AllocError>
-    ensures { let lines = lines_of rules H.Hold.showing (made (held_in H.Hold hold)) (pass_events (segments_in pass.entry)) in
+    ensures { let events = pass_events (segments_in pass.entry) in
+        let lines = lines_of rules H.Hold.showing (made (held_in H.Hold hold)) events in
         IfOk result (λ s. string_bytes s ≡ whole_text lines) }
 {
     let mut slots = [Report::UNUSED];
@@ -61,9 +62,10 @@ fn pass_text(heap: Global, pass: PassRecord<'_>) -> Result<String, AllocError>
 }
 
 /// The lines of a pass record: for each report its reason, its codeblocks and its corrections; behind
-/// `closed` the candidate that was finished, which is released at once; last, how many reports and
-/// frames there were. `refused 16` alone where the octets are no pass record. The receiver corrects
-/// wrong bits, takes at most 37 codeblocks in a CLTU, and has a ring of 37 cells.
+/// `closed` the candidate that was finished; last, how many reports and frames there were. `refused 16`
+/// alone where the octets are no pass record. The receiver corrects wrong bits and takes at most 37
+/// codeblocks in a CLTU. It is told to release each candidate as soon as that is written, so its ring of
+/// 37 cells never fills.
 pub fn answer_record(heap: Global, octets: &[u8]) -> Result<String, AllocError>
     ensures answers { IfOk result (λ s. Answers octets.now (string_bytes s)) }
     ensures one { OneText }
