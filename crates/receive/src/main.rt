@@ -2,7 +2,7 @@
 #![tactic(auto)]
 
 use command_line::{Program, Task, arguments};
-use pass_lines::answer_record;
+use receive_lines::answer_record;
 use std::io::Read;
 use std::process::ExitCode;
 

@@ -1,2 +1,0 @@
--- What the proofs of several functions share. Assumes nothing.
-mod Passes

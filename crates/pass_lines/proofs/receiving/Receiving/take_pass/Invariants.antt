@@ -1,9 +1,0 @@
--- What holds after some of them. Assumes nothing.
-use Rattle.std.proofs.Common.{map}
-use Rattle.pass_record.specs.Segments.{symbols_in}
-use Rattle.pass_lines.specs.Answers.{pass_events}
-use Rattle.pass_lines.specs.Progress.{Passed}
-use Rattle.pass_lines.proofs.receiving.Receiving.take_pass.Given as goal
-
-abbrev pub invariant-loop-segment : goal.invariant-loop-segment
-invariant-loop-segment g l = Passed g.H.Hold (pass_events (map symbols_in l.yielded)) l.initial.self l.self

@@ -1,0 +1,5 @@
+-- What the proofs of several functions share. Assumes nothing.
+pub mod Lines
+pub mod Passes
+pub mod Emptied
+pub mod Sent
