@@ -1,7 +1,6 @@
 -- What is heard, and how events are parted by it. Assumes nothing.
-use Rattle.std.proofs.Common.{◌≡◌, ℕ, Bool, true, false, List, [], ◌∷◌, ◌++◌, map, sym, refl, ap, ap₂, ◌∙◌}
+use Rattle.std.proofs.Common.{◌≡◌, ℕ, Bool, true, false, List, [], ◌∷◌, ◌++◌, map, refl, ap, ap₂, ◌∙◌}
 use Rattle.std.proofs.lemmas.List.{map-append}
-use Rattle.reception.specs.Calls.{symbol_events}
 use Rattle.reception.specs.Rules.{Event, carrier_up, carrier_down, symbol, release}
 use Rattle.reception.specs.Runs.{symbols_in, CarrierStaysUp}
 use Rattle.reception.specs.Promise.{CarrierStaysDown}

@@ -10,7 +10,7 @@ use Rattle.cltu.specs.Cltu.{codeblocks_for, filled, cltu}
 use Rattle.cltu.proofs.Places.{length_sent}
 use Rattle.hold.specs.Candidates.{Candidate, Showing, shown_from, Matches, finished_codeblocks}
 use Rattle.reception.specs.Decoding.{Settings, Held, room}
-use Rattle.reception.specs.Rules.{Phase, INACTIVE, SEARCH, DECODE, State, state, Event, carrier_up, carrier_down, symbol, at_up, made}
+use Rattle.reception.specs.Rules.{Phase, INACTIVE, SEARCH, DECODE, State, state, Event, carrier_up, carrier_down, symbol, made}
 use Rattle.reception.specs.Runs.{after_events, symbols_in, CarrierStaysUp, Clear}
 use Rattle.reception.specs.Allowance.{undamaged}
 use Rattle.reception.specs.Promise.{CarrierStaysDown, Transmission, WellSent, new_candidates}
@@ -21,13 +21,13 @@ use Rattle.reception.proofs.Kept.{KeptState, kept_from_making, none_open_in_inac
 use Rattle.reception.proofs.Sent.{idle_gap, away_comes, one_well_sent, under_filled, shown_back}
 use Rattle.reception.proofs.Undamaged.{length_blocks, symbols_undamaged, within_undamaged}
 use Rattle.procedures.specs.Stretch.{idle_octet, repeated, idle_behind, Parameters, sent_octets, Writing, idles, sends, octets_in, stretch_octets, frames_in}
-use Rattle.procedures.specs.Signals.{Signal, goes_up, bit, goes_down, signals_of_octets, SentStretch, Stretches, frames_of_closed, frames_of_opened, frames_on, PlacedCltu, open_signals, closed_signals, signals_of_opened, signals_on, cltus_in, cltus_of, cltus_of_closed, cltus_of_opened, cltus_on, heard, up_after}
+use Rattle.procedures.specs.Signals.{Signal, goes_up, bit, goes_down, signals_of_octets, SentStretch, Stretches, frames_of_closed, frames_of_opened, frames_on, PlacedCltu, closed_signals, signals_of_opened, cltus_in, cltus_of, cltus_of_closed, cltus_of_opened, heard, up_after}
 use Rattle.procedures.specs.Reception.{FramesWithin, codeblocks_of, ReceivedStretch, events_of_stretch, BroughtUndamaged, frames_of, as_sent, one_open, Adds, SpaceAt, SpaceInTime, EndsIn, WhatIsHeardInTimeIsReceived, SpaceForAllIsSpaceInTime, AStretchInTimeIsReceived, AStretchIsReceived, ASessionInTimeIsReceived, ASessionIsReceived, SessionPromise}
 use Rattle.procedures.proofs.Hearing.{signals_append, heard_append, up_append, symbols_heard, heard_up, heard_down, stays_down, stays_up, goes_up_at, goes_down_at, more_heard, none_heard}
 use Rattle.procedures.proofs.Stretches.{idle_events, repeated_on, cltu_first, a_stretch_is_cltus_with_idle_between}
 use Rattle.procedures.proofs.Rooms.{room_left}
 
-within_both : (limit : ℕ) (frames others : List (List ℕ)) → FramesWithin limit frames → FramesWithin limit others → FramesWithin limit (frames ++ others)
+pub within_both : (limit : ℕ) (frames others : List (List ℕ)) → FramesWithin limit frames → FramesWithin limit others → FramesWithin limit (frames ++ others)
 within_both limit [] others within more = more
 within_both limit (frame ∷ frames) others within more = (within.0, within.1, within.2, within_both limit frames others within.3 more)
 
@@ -163,17 +163,17 @@ module _ (settings : Settings) (showing : Showing) (parameters : Parameters) (st
       let one = one_well_sent settings showing r (from_start to_first) gap.next gap.count gap.window gap.hold t at gap.opened gap.calm well in
       let hears-own = more_heard to_first c.own until (bits_of own) (hears.0 ∙ until-is) hears.1 c.up c.symbols in
       let behind : Known (SEARCH 0 0) true (to_first ++ c.own) one.hold (earlier ++ frame ∷ []) (until ++ signals_of_octets own) =
-          record {
-            at = after_append settings showing to_first c.own start ∙ one.goes.after;
-            none = one.opened;
-            signals = hears-own.0;
-            carrier = hears-own.1;
-            new = new_append settings showing to_first c.own start ∙ ap₂ ◌++◌ new one.goes.news ∙ sym (map-append (shown settings showing r) earlier (frame ∷ []));
-            within = within_both settings.limit earlier (frame ∷ []) known.within (few.0, few.1, few.2, tt);
-          } in
+      record {
+        at = after_append settings showing to_first c.own start ∙ one.goes.after;
+        none = one.opened;
+        signals = hears-own.0;
+        carrier = hears-own.1;
+        new = new_append settings showing to_first c.own start ∙ ap₂ ◌++◌ new one.goes.news ∙ sym (map-append (shown settings showing r) earlier (frame ∷ []));
+        within = within_both settings.limit earlier (frame ∷ []) known.within (few.0, few.1, few.2, tt);
+      } in
       let last = inside writings (idle_behind parameters.plop) (to_first ++ c.own) c.behind rest es one.hold (earlier ++ frame ∷ []) (until ++ signals_of_octets own) (until ++ signals_of_octets (own ++ tail)) kept
-          (is ∙ ap (λ l. done ++ l) c.whole ∙ sym (append_assoc done c.gap (c.own ++ c.behind)) ∙ sym (append_assoc to_first c.own c.behind)) whole behind
-          (append_assoc until (signals_of_octets own) (signals_of_octets tail) ∙ ap (λ l. until ++ l) (sym (signals_append own tail))) c.stays c.rest few.3 space.1 in
+      (is ∙ ap (λ l. done ++ l) c.whole ∙ sym (append_assoc done c.gap (c.own ++ c.behind)) ∙ sym (append_assoc to_first c.own c.behind)) whole behind
+      (append_assoc until (signals_of_octets own) (signals_of_octets tail) ∙ ap (λ l. until ++ l) (sym (signals_append own tail))) c.stays c.rest few.3 space.1 in
       subst (λ frames. In frames es) (append_assoc earlier (frame ∷ []) (frames_in writings)) last
 
   -- the carrier goes up
@@ -198,7 +198,7 @@ module _ (settings : Settings) (showing : Showing) (parameters : Parameters) (st
               carrier = up_append false done es ∙ up_append (up_after false done) away (carrier_up ∷ []);
               new = new_append settings showing done es start
                   ∙ ap₂ ◌++◌ known.new (ap (λ u. new_candidates settings showing u es) known.at ∙ new_append settings showing away (carrier_up ∷ []) (state INACTIVE h)
-                    ∙ ap₂ (λ (l : List Candidate) (u : State). l ++ new_candidates settings showing u (carrier_up ∷ [])) w.new w.after)
+                  ∙ ap₂ (λ (l : List Candidate) (u : State). l ++ new_candidates settings showing u (carrier_up ∷ [])) w.new w.after)
                   ∙ append-nil (map (shown settings showing r) earlier);
               within = known.within;
             };
@@ -253,7 +253,7 @@ module _ (settings : Settings) (showing : Showing) (parameters : Parameters) (st
       let up = done ++ (g.away ++ (carrier_up ∷ [])) in
       let here = subst (λ l. AllByRecursion Space l) (ap₂ (λ (b : List Signal) (e : List (List ℕ)). cltus_of parameters b e one) (until-is ∙ append-nil before) (open-is ∙ append-nil earlier)) space-open in
       let own = one_stretch one up g.behind [] all earlier before kept (whole ∙ ap (λ l. done ++ l) g.whole ∙ regroup done g.away g.behind carrier_up) (sym (append-nil all))
-          (comes_up done g.away h earlier before known g.down) stays.0 stays.1 few-open here in
+      (comes_up done g.away h earlier before known g.down) stays.0 stays.1 few-open here in
       record { ends = own.clear; new = own.new }
   through (one ∷ more) opened done events h earlier before-open before until kept whole known hears few few-open space until-is open-is space-open =
       let own = signals_of_octets (stretch_octets parameters one.acquisition one.writings) in
@@ -261,7 +261,7 @@ module _ (settings : Settings) (showing : Showing) (parameters : Parameters) (st
       let last = signals_of_opened parameters opened in
       let g = goes_up_at events _ hears in
       let d = goes_down_at g.behind (bits_of (stretch_octets parameters one.acquisition one.writings)) (behind ++ last)
-          (g.rest ∙ ap (λ l. l ++ last) (append_assoc own (goes_down ∷ []) behind) ∙ append_assoc own (goes_down ∷ behind) last) in
+      (g.rest ∙ ap (λ l. l ++ last) (append_assoc own (goes_down ∷ []) behind) ∙ append_assoc own (goes_down ∷ behind) last) in
       let up = done ++ (g.away ++ (carrier_up ∷ [])) in
       let es = up ++ d.during in
       let rest = carrier_down ∷ d.behind in
@@ -275,17 +275,17 @@ module _ (settings : Settings) (showing : Showing) (parameters : Parameters) (st
       let down = comes_down (from_start es) inner.clear in
       let hears-own = more_heard up d.during (before ++ (goes_up ∷ [])) (bits_of (stretch_octets parameters one.acquisition one.writings)) is-up.known.signals is-up.known.carrier d.up d.symbols in
       let known-next : Known INACTIVE false (es ++ (carrier_down ∷ [])) down.hold (earlier ++ frames) (before ++ closed_signals parameters one) =
-          record {
-            at = after_append settings showing es (carrier_down ∷ []) start ∙ down.after;
-            none = down.none;
-            signals = heard_append false es (carrier_down ∷ []) ∙ ap₂ ◌++◌ hears-own.0 (ap (λ u. heard u (carrier_down ∷ [])) hears-own.1) ∙ append_assoc (before ++ (goes_up ∷ [])) own (goes_down ∷ []) ∙ append_assoc before (goes_up ∷ []) (own ++ (goes_down ∷ []));
-            carrier = up_append false es (carrier_down ∷ []);
-            new = new_append settings showing es (carrier_down ∷ []) start ∙ ap₂ ◌++◌ inner.new down.new ∙ append-nil (map (shown settings showing r) (earlier ++ frames));
-            within = within_both settings.limit earlier frames known.within few-one;
-          } in
+      record {
+        at = after_append settings showing es (carrier_down ∷ []) start ∙ down.after;
+        none = down.none;
+        signals = heard_append false es (carrier_down ∷ []) ∙ ap₂ ◌++◌ hears-own.0 (ap (λ u. heard u (carrier_down ∷ [])) hears-own.1) ∙ append_assoc (before ++ (goes_up ∷ [])) own (goes_down ∷ []) ∙ append_assoc before (goes_up ∷ []) (own ++ (goes_down ∷ []));
+        carrier = up_append false es (carrier_down ∷ []);
+        new = new_append settings showing es (carrier_down ∷ []) start ∙ ap₂ ◌++◌ inner.new down.new ∙ append-nil (map (shown settings showing r) (earlier ++ frames));
+        within = within_both settings.limit earlier frames known.within few-one;
+      } in
       let next = through more opened (es ++ (carrier_down ∷ [])) d.behind down.hold (earlier ++ frames) before-open (before ++ closed_signals parameters one) until kept
-          (parted ∙ sym (append_assoc es (carrier_down ∷ []) d.behind)) known-next d.rest (within_back settings.limit frames (frames_of_closed more) few) few-open (all_back Space its others space)
-          (until-is ∙ sym (append_assoc before (closed_signals parameters one) behind)) (open-is ∙ sym (append_assoc earlier frames (frames_of_closed more))) space-open in
+      (parted ∙ sym (append_assoc es (carrier_down ∷ []) d.behind)) known-next d.rest (within_back settings.limit frames (frames_of_closed more) few) few-open (all_back Space its others space)
+      (until-is ∙ sym (append_assoc before (closed_signals parameters one) behind)) (open-is ∙ sym (append_assoc earlier frames (frames_of_closed more))) space-open in
       subst (λ l. Through opened l) (append_assoc earlier frames (frames_of_closed more ++ frames_of_opened opened) ∙ ap (λ l. earlier ++ l) (sym (append_assoc frames (frames_of_closed more) (frames_of_opened opened)))) next
 
   -- ---- space for all of them
@@ -337,10 +337,10 @@ module _ (settings : Settings) (showing : Showing) where
       let opened = cltus_of_opened parameters (flat_map (closed_signals parameters) on.closed) (frames_of_closed on.closed) on.opened in
       let P = SpaceAt settings showing parameters.randomizer then events in
       let known : Known settings showing parameters then events INACTIVE false [] then.held [] [] =
-          record { at = ap (λ p. state p then.held) inactive; none = none_open_in_inactive settings showing hold earlier inactive; signals = refl; carrier = refl; new = refl; within = tt } in
+      record { at = ap (λ p. state p then.held) inactive; none = none_open_in_inactive settings showing hold earlier inactive; signals = refl; carrier = refl; new = refl; within = tt } in
       let both = through settings showing parameters then events on.closed on.opened [] events then.held [] (frames_of_closed on.closed) [] (flat_map (closed_signals parameters) on.closed) kept refl known hears
-          (within_front settings.limit (frames_of_closed on.closed) (frames_of_opened on.opened) few) (within_back settings.limit (frames_of_closed on.closed) (frames_of_opened on.opened) few)
-          (all_front P closed opened space) refl refl (all_back P closed opened space) in
+      (within_front settings.limit (frames_of_closed on.closed) (frames_of_opened on.opened) few) (within_back settings.limit (frames_of_closed on.closed) (frames_of_opened on.opened) few)
+      (all_front P closed opened space) refl refl (all_back P closed opened space) in
       (both.ends, adds settings showing parameters.randomizer (frames_on on) then events kept few both.new)
 
   pub space_for_all_is_space_in_time : SpaceForAllIsSpaceInTime settings showing
@@ -372,9 +372,9 @@ module _ (settings : Settings) (showing : Showing) where
       let behind = flat_map events_of_stretch more in
       let rest = heard_append false one.away behind ∙ ap₂ ◌++◌ gone.0 (ap (λ u. heard u behind) gone.1 ∙ session_heard parameters more brought.3) in
       ap (λ l. goes_up ∷ l) (
-        ap (heard true) (append_assoc one.during (carrier_down ∷ one.away) behind) ∙ heard_append true one.during (carrier_down ∷ (one.away ++ behind))
-        ∙ ap₂ ◌++◌ (own.0 ∙ ap (map bit) brought.1) (ap (λ u. heard u (carrier_down ∷ (one.away ++ behind))) own.1 ∙ ap (λ l. goes_down ∷ l) rest)
-        ∙ sym (append_assoc (signals_of_octets (stretch_octets parameters one.acquisition one.writings)) (goes_down ∷ []) (flat_map (closed_signals parameters) (as_sent more).closed))
+      ap (heard true) (append_assoc one.during (carrier_down ∷ one.away) behind) ∙ heard_append true one.during (carrier_down ∷ (one.away ++ behind))
+      ∙ ap₂ ◌++◌ (own.0 ∙ ap (map bit) brought.1) (ap (λ u. heard u (carrier_down ∷ (one.away ++ behind))) own.1 ∙ ap (λ l. goes_down ∷ l) rest)
+      ∙ sym (append_assoc (signals_of_octets (stretch_octets parameters one.acquisition one.writings)) (goes_down ∷ []) (flat_map (closed_signals parameters) (as_sent more).closed))
       )
 
   pub a_session_in_time_is_received : ASessionInTimeIsReceived settings showing
@@ -383,8 +383,8 @@ module _ (settings : Settings) (showing : Showing) where
       let then = after_events settings showing (made hold) earlier in
       let events = flat_map events_of_stretch stretches in
       let both = what_is_heard_in_time_is_received parameters (as_sent stretches) hold earlier events inactive
-          (session_heard parameters stretches brought ∙ sym (append-nil (flat_map (closed_signals parameters) (as_sent stretches).closed)))
-          (subst (λ l. FramesWithin settings.limit l) (sym frames) few) space in
+      (session_heard parameters stretches brought ∙ sym (append-nil (flat_map (closed_signals parameters) (as_sent stretches).closed)))
+      (subst (λ l. FramesWithin settings.limit l) (sym frames) few) space in
       (both.0, subst (λ l. Adds settings showing parameters.randomizer l then events) frames both.1)
 
   pub a_session_is_received : ASessionIsReceived settings showing
