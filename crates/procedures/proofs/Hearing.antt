@@ -3,7 +3,7 @@ use Rattle.std.proofs.Common.{◌≡◌, ℕ, Bool, true, false, List, [], ◌�
 use Rattle.std.proofs.lemmas.List.{map-append}
 use Rattle.reception.specs.Rules.{Event, carrier_up, carrier_down, symbol, release}
 use Rattle.reception.specs.Runs.{symbols_in, CarrierStaysUp}
-use Rattle.reception.specs.Promise.{CarrierStaysDown}
+use Rattle.reception.specs.Gaps.{CarrierStaysDown}
 use Rattle.reception.proofs.Undamaged.{bits_append}
 use Rattle.procedures.specs.Signals.{Signal, goes_up, bit, goes_down, signals_of_octets, heard, up_after}
 use Rattle.procedures.specs.Reception.{HeardOneBehindTheOther, UpBehindBoth, SymbolsAreHeard}

@@ -13,13 +13,15 @@ use Rattle.reception.specs.Decoding.{Settings, Held, room}
 use Rattle.reception.specs.Rules.{Phase, INACTIVE, SEARCH, DECODE, State, state, Event, carrier_up, carrier_down, symbol, made}
 use Rattle.reception.specs.Runs.{after_events, symbols_in, CarrierStaysUp, Clear}
 use Rattle.reception.specs.Allowance.{undamaged}
-use Rattle.reception.specs.Promise.{CarrierStaysDown, Transmission, WellSent, new_candidates}
+use Rattle.reception.specs.Finished.{new_candidates}
+use Rattle.reception.specs.Gaps.{CarrierStaysDown}
+use Rattle.reception.specs.Sent.{as_shown, Transmission, WellSent}
 use Rattle.reception.proofs.Brings.{after_append, new_append}
 use Rattle.reception.proofs.Decoding.{length_shown_from}
 use Rattle.reception.proofs.Finished.{run_keeps}
 use Rattle.reception.proofs.Kept.{KeptState, kept_from_making, none_open_in_inactive}
 use Rattle.reception.proofs.Sent.{idle_gap, away_comes, one_well_sent, under_filled, shown_back}
-use Rattle.reception.proofs.Undamaged.{length_blocks, symbols_undamaged, within_undamaged}
+use Rattle.reception.proofs.Undamaged.{as_sent_is_within_the_allowance}
 use Rattle.procedures.specs.Stretch.{idle_octet, repeated, idle_behind, Parameters, sent_octets, Writing, idles, sends, octets_in, stretch_octets, frames_in}
 use Rattle.procedures.specs.Signals.{Signal, goes_up, bit, goes_down, signals_of_octets, SentStretch, Stretches, frames_of_closed, frames_of_opened, frames_on, PlacedCltu, closed_signals, signals_of_opened, cltus_in, cltus_of, cltus_of_closed, cltus_of_opened, heard, up_after}
 use Rattle.procedures.specs.Reception.{FramesWithin, codeblocks_of, ReceivedStretch, events_of_stretch, BroughtUndamaged, frames_of, as_sent, one_open, Adds, SpaceAt, SpaceInTime, EndsIn, WhatIsHeardInTimeIsReceived, SpaceForAllIsSpaceInTime, AStretchInTimeIsReceived, AStretchIsReceived, ASessionInTimeIsReceived, ASessionIsReceived, SessionPromise}
@@ -68,7 +70,7 @@ module _ (settings : Settings) (showing : Showing) (randomizer : Randomizer) whe
   news = new_candidates settings showing
 
   abbrev shown : List ℕ → Candidate
-  shown frame = shown_from showing 0 (randomized randomizer (filled frame))
+  shown frame = as_shown showing randomizer frame
 
   abbrev ClearState : State → Type 0
   ClearState s = Clear s.phase s.held
@@ -91,10 +93,9 @@ module _ (settings : Settings) (showing : Showing) (randomizer : Randomizer) whe
   well_sent : (s : State) (t : Transmission) → t.received ≡ undamaged randomizer t.frame → CarrierStaysUp t.events → symbols_in t.events ≡ bits_of (cltu randomizer t.frame) →
       AllBelowBase 256 t.frame → 1 ≤ length t.frame → codeblocks_for (length t.frame) ≤ settings.limit → codeblocks_for (length t.frame) ≤ room s.held → WellSent settings showing randomizer s t
   well_sent s t is up symbols octets some few space =
-      let n = codeblocks_for (length t.frame) in
-      let sent = randomized randomizer (filled t.frame) in
+      let sent = as_sent_is_within_the_allowance settings randomizer t.frame octets some few in
       subst (λ r. WellSent settings showing randomizer s (record { gap = t.gap; frame = t.frame; received = r; events = t.events })) (sym is)
-      (record { octets = octets; carrier = up; symbols = symbols ∙ symbols_undamaged randomizer t.frame; within = within_undamaged settings showing randomizer t.frame octets some few; space = omega (arith, length_blocks n sent) })
+      (record { octets = octets; carrier = up; symbols = symbols ∙ sym sent.1; within = sent.0; space = omega (arith, sent.2) })
 
 module _ (settings : Settings) (showing : Showing) (parameters : Parameters) (start : State) (all : List Event) where
   abbrev r : Randomizer

@@ -6,7 +6,8 @@ use Rattle.cltu.specs.Cltu.{cltu}
 use Rattle.reception.specs.Rules.{Event, carrier_up, carrier_down, symbol, release}
 use Rattle.reception.specs.Runs.{symbols_in, CarrierStaysUp, idle}
 use Rattle.reception.specs.Allowance.{undamaged}
-use Rattle.reception.specs.Promise.{IdleOrNothing, Transmission, events_of}
+use Rattle.reception.specs.Gaps.{IdleOrNothing}
+use Rattle.reception.specs.Sent.{Transmission, events_of}
 use Rattle.reception.proofs.Brings.{Brings, same_first, split}
 use Rattle.reception.proofs.Undamaged.{bits_append, symbols_undamaged}
 use Rattle.procedures.specs.declared.IdleOctet.{IdleOctet}

@@ -14,7 +14,7 @@ use Rattle.reception.specs.Runs.{after_events, symbols_in, CarrierStaysUp, Clear
 use Rattle.reception.specs.Allowance.{undamaged, symbols_of}
 use Rattle.reception.specs.Finished.{new_candidates, releases_accepted}
 use Rattle.reception.specs.Gaps.{IdleOrNothing, CarrierStaysDown}
-use Rattle.reception.specs.Sent.{Transmission, events_of}
+use Rattle.reception.specs.Sent.{as_shown, Transmission, events_of}
 use Rattle.procedures.specs.Stretch.{Parameters, Writing, stretch_octets, frames_in}
 use Rattle.procedures.specs.Signals.{bit, SentStretch, Stretches, frames_on, PlacedCltu, signals_on, cltus_on, heard, up_after}
 
@@ -86,7 +86,7 @@ module _ (settings : Settings) (showing : Showing) where
   -- the new candidates of a run are these frames, filled, as the session randomized them and the hold shows them; over a hold that
   -- matches, the filled frames
   pub record Adds (randomizer : Randomizer) (frames : List (List ℕ)) (s : State) (events : List Event) : Type 0 where
-    pub shown : new_candidates settings showing s events ≡ map (λ frame. shown_from showing 0 (randomized randomizer (filled frame))) frames
+    pub shown : new_candidates settings showing s events ≡ map (λ frame. as_shown showing randomizer frame) frames
     pub filled_frames : Matches showing randomizer → new_candidates settings showing s events ≡ map filled frames
     -- they are added behind what was finished, less one from the front for each accepted release
     pub added :
