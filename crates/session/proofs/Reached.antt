@@ -24,6 +24,7 @@ use Rattle.session.specs.Writing.{parameters_of, frame_at, idle_answer, job_octe
 use Rattle.session.specs.Calls.{only_frame}
 use Rattle.session.specs.Machine.{Standing, silent, carrier, locked, sent, Call, call_raise, call_lower, call_acquire, call_idle, call_send, call_run_next, call_break, FrameMemoryOfOctets, if_accepted, behind_a_frame, step, bears_data, signals_of_step, standing_after, signals_of_calls, frames_of_calls, cltus_of_calls}
 use Rattle.session.specs.Promise.{InOrder, AnyCallsAreStretches, FramesOfCallsAreWithin, EndsUp, AnyCallsInTimeAreReceived, AnyCallsAreReceived, CallsPromise}
+use Rattle.session.proofs.Steps.{a_step_goes_on}
 use Rattle.session.proofs.Fronts.{job_within}
 
 all_both : {X : Type 0} (P : X → Type 0) (xs ys : List X) → AllByRecursion P xs → AllByRecursion P ys → AllByRecursion P (xs ++ ys)
@@ -367,4 +368,4 @@ module _ (receiver : ReceiverSettings) (showing : Showing) where
       (space_for_all_is_space_in_time receiver showing (parameters_of settings) a.on hold earlier events inactive (omega (arith, space, ap codeblocks_of a.frames))))
 
 pub calls_promise : CallsPromise
-calls_promise = record { stretches = any_calls_are_stretches; within = frames_of_calls_are_within; received = any_calls_are_received; received_in_time = any_calls_in_time_are_received }
+calls_promise = record { begins = λ silent. record { standing = refl; frame_memory = tt }; goes_on = a_step_goes_on; stretches = any_calls_are_stretches; within = frames_of_calls_are_within; received = any_calls_are_received; received_in_time = any_calls_in_time_are_received }

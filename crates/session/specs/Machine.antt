@@ -2,6 +2,7 @@
 -- refused, and one that the session does not have where it stands, changes nothing and writes nothing. Assumes nothing.
 use Rattle.std.specs.Prelude.{◌≡◌, ℕ, Bool, true, false, List, [], ◌∷◌, ◌++◌, map, Ok, Err, Result}
 use Rattle.std.specs.Int.Digits.{AllBelowBase}
+use Rattle.std.specs.List.{AllByRecursion}
 use Rattle.refusals.specs.declared.Refusal.{Refusal}
 use Rattle.procedures.specs.declared.Plop.{Plop}
 use Rattle.procedures.specs.declared.Plop.TheVariants.{One, Two}
@@ -109,10 +110,14 @@ abbrev pub fall : (before after : Bool) → List Signal
 fall true false = goes_down ∷ []
 fall before after = []
 
+-- what a call puts on the carrier by which the session goes from one standing to another and writes these octets
+abbrev pub signals_between : (before : Standing) (written : List ℕ) (after : Standing) → List Signal
+signals_between before written after =
+    rise (bears_data before) (bears_data after)
+    ++ (signals_of_octets written ++ fall (bears_data before) (bears_data after))
+
 abbrev pub signals_of_step : Standing → Step → List Signal
-signals_of_step before one =
-    rise (bears_data before) (bears_data one.after)
-    ++ (signals_of_octets one.written ++ fall (bears_data before) (bears_data one.after))
+signals_of_step before one = signals_between before one.written one.after
 
 -- lists of calls from the making on, the latest call first
 module _ (settings : Settings) where
@@ -130,12 +135,14 @@ module _ (settings : Settings) where
   frames_of_calls (latest ∷ earlier) = frames_of_calls earlier ++ (step settings (standing_after earlier) latest).frames
 
   -- each CLTU comes first in what its call writes
+  abbrev pub cltus_behind : List Call → List (List ℕ) → List PlacedCltu
+  cltus_behind earlier frames =
+      map (λ frame. record { before = signals_of_calls earlier; earlier = frames_of_calls earlier; frame = frame }) frames
+
   abbrev pub cltus_of_calls : List Call → List PlacedCltu
   cltus_of_calls [] = []
   cltus_of_calls (latest ∷ earlier) =
-      cltus_of_calls earlier
-      ++ map (λ frame. record { before = signals_of_calls earlier; earlier = frames_of_calls earlier; frame = frame })
-      (step settings (standing_after earlier) latest).frames
+      cltus_of_calls earlier ++ cltus_behind earlier (step settings (standing_after earlier) latest).frames
 
 -- a session as the machine sees it
 pub record Session : Type 0 where
@@ -158,9 +165,15 @@ abbrev pub session_after : AfterSending → Session
 session_after (now_sent it) = sent_session it
 session_after (still_locked it) = locked_session it
 
--- a call led from this session to that one and wrote these octets, as the machine does
-pub record IsStep (before : Session) (call : Call) (after : Session) (written : List ℕ) : Type 0 where
+-- a call led from this session to that one, wrote these octets with these frames among them, as the machine does
+pub record IsStep (before : Session) (call : Call) (after : Session) (written : List ℕ) (frames : List (List ℕ)) : Type 0 where
   pub settings : after.settings ≡ before.settings
   pub standing : after.standing ≡ (step before.settings before.standing call).after
   pub octets : written ≡ (step before.settings before.standing call).written
+  pub its_frames : frames ≡ (step before.settings before.standing call).frames
   pub frame_memory : FrameMemoryOfOctets call
+
+-- a session that stands so after these calls from its making on
+pub record StandsAfter (calls : List Call) (now : Session) : Type 0 where
+  pub standing : now.standing ≡ standing_after now.settings calls
+  pub frame_memory : AllByRecursion FrameMemoryOfOctets calls

@@ -1,5 +1,5 @@
 -- What any list of calls puts on the carrier, and what a receiver makes of it. Assumes nothing.
-use Rattle.std.specs.Prelude.{◌≡◌, ℕ, ◌≤◌, Bool, true, false, List, length, is_some, IfSome}
+use Rattle.std.specs.Prelude.{◌≡◌, ℕ, ◌≤◌, Bool, true, false, List, [], ◌∷◌, ◌++◌, length, is_some, IfSome}
 use Rattle.std.specs.List.{AllByRecursion}
 use Rattle.hold.specs.Candidates.{Showing}
 use Rattle.reception.specs.Decoding.{Settings as ReceiverSettings, Held, room}
@@ -11,7 +11,8 @@ use Rattle.procedures.specs.Signals.{SentStretch, Stretches, frames_on, signals_
 use Rattle.procedures.specs.Reception.{FramesWithin, codeblocks_of, Adds, SpaceAt}
 use Rattle.session.specs.declared.Settings.{Settings}
 use Rattle.session.specs.Writing.{parameters_of}
-use Rattle.session.specs.Machine.{Call, FrameMemoryOfOctets, bears_data, standing_after, signals_of_calls, frames_of_calls, cltus_of_calls}
+use Rattle.session.specs.declared.Silent.{Silent}
+use Rattle.session.specs.Machine.{Call, FrameMemoryOfOctets, bears_data, signals_between, standing_after, signals_of_calls, frames_of_calls, cltus_behind, cltus_of_calls, Session, silent_session, IsStep, StandsAfter}
 
 -- an acquisition of 16 to 255 octets, frames within the session's limit, and in PLOP-1 one at most
 pub record InOrder (settings : Settings) (one : SentStretch) : Type 0 where
@@ -33,6 +34,24 @@ pub record AreStretches (settings : Settings) (calls : List Call) : Type 0 where
 
 abbrev pub AnyCallsAreStretches : Type 0
 AnyCallsAreStretches = (settings : Settings) (calls : List Call) → AllByRecursion FrameMemoryOfOctets calls → AreStretches settings calls
+
+-- a call that is a step of the machine is the latest of the calls: what it puts on the carrier comes behind what they did
+pub record GoesOnBehind (earlier : List Call) (before : Session) (call : Call) (after : Session) (written : List ℕ) (frames : List (List ℕ)) : Type 0 where
+  pub stands : StandsAfter (call ∷ earlier) after
+  pub settings : after.settings ≡ before.settings
+  pub signals :
+      signals_of_calls after.settings (call ∷ earlier)
+      ≡ signals_of_calls before.settings earlier ++ signals_between before.standing written after.standing
+  pub its_frames : frames_of_calls after.settings (call ∷ earlier) ≡ frames_of_calls before.settings earlier ++ frames
+  pub cltus :
+      cltus_of_calls after.settings (call ∷ earlier)
+      ≡ cltus_of_calls before.settings earlier ++ cltus_behind before.settings earlier frames
+
+abbrev pub AStepGoesOn : Type 0
+AStepGoesOn =
+    (earlier : List Call) (before : Session) (call : Call) (after : Session) (written : List ℕ) (frames : List (List ℕ)) →
+    StandsAfter earlier before → IsStep before call after written frames →
+    GoesOnBehind earlier before call after written frames
 
 -- so that they are within the limit of each receiver whose limit is no less
 abbrev pub FramesOfCallsAreWithin : Type 0
@@ -70,6 +89,8 @@ module _ (receiver : ReceiverSettings) (showing : Showing) where
       × Adds receiver showing settings.sender.randomizer (frames_of_calls settings calls) then events
 
 pub record CallsPromise : Type 0 where
+  pub begins : (silent : Silent) → StandsAfter [] (silent_session silent)
+  pub goes_on : AStepGoesOn
   pub stretches : AnyCallsAreStretches
   pub within : FramesOfCallsAreWithin
   pub received : (receiver : ReceiverSettings) (showing : Showing) → AnyCallsAreReceived receiver showing

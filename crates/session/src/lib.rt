@@ -10,7 +10,7 @@ ghost use Rattle.cltu.specs.Limit.{limit_answer};
 ghost use Rattle.session.specs.Calls.{MadeWith, silent_with, carrier_with, acquired, state_after, sending, only_frame, next_octets, next_answer, next_writings};
 ghost use Rattle.session.specs.Machine.{call_raise, call_lower, call_acquire, call_idle, call_send, call_run_next, call_break, silent_session, carrier_session, locked_session, sent_session, session_after, IsStep};
 ghost use Rattle.session.specs.Promise.{CallsPromise};
-ghost use Rattle.session.specs.Writing.{parameters_of, Found, NotWhole, idle_answer, job_octets, job_answer, memory_after, GoesOn, writings_of};
+ghost use Rattle.session.specs.Writing.{parameters_of, frame_at, Found, NotWhole, idle_answer, job_octets, job_answer, memory_after, GoesOn, writings_of};
 
 use cltu::{CodeblockLimit, Sender};
 use procedures::{IdleOctet, Plop};
@@ -172,7 +172,9 @@ impl Silent {
         randomizer: Randomizer,
         idle: IdleOctet,
     ) -> Result<Silent, Refusal>
-        ensures made { MatchResult result (λ silent. MadeWith plop «limit» randomizer idle silent) (λ why. limit_answer «limit» ≡ Err why) }
+        ensures made { MatchResult result
+            (λ silent. MadeWith plop «limit» randomizer idle silent)
+            (λ why. limit_answer «limit» ≡ Err why) }
         ensures promise { CallsPromise }
     {
         let limit = CodeblockLimit::try_from(limit)?;
@@ -188,7 +190,7 @@ impl Silent {
     /// Raises the carrier, which bears no data yet.
     pub fn raise(self) -> Carrier
         ensures answer { result ≡ carrier_with self.settings }
-        ensures call { IsStep (silent_session self) call_raise (carrier_session result) [] }
+        ensures call { IsStep (silent_session self) call_raise (carrier_session result) [] [] }
     {
         let Silent { settings } = self;
         Carrier { settings }
@@ -206,11 +208,14 @@ impl Carrier {
         memory: &mut [u8],
     ) -> Result<(Locked, usize), (Carrier, Refusal)>
         ensures answer { result ≡ acquired self (idle_answer 16 255 octets memory.old) }
-        ensures memory { memory.new ≡ memory_after (repeated self.settings.idle octets) memory.old (idle_answer 16 255 octets memory.old) }
-        ensures stretch { IfOk result (λ done. take done.1 memory.new ≡ stretch_octets (parameters_of self.settings) octets []) }
-        ensures call { MatchResult result
-            (λ done. IsStep (carrier_session self) (call_acquire octets memory.old) (locked_session done.0) (take done.1 memory.new))
-            (λ back. IsStep (carrier_session self) (call_acquire octets memory.old) (carrier_session back.0) []) }
+        ensures memory { memory.new
+            ≡ memory_after (repeated self.settings.idle octets) memory.old (idle_answer 16 255 octets memory.old) }
+        ensures stretch { IfOk result
+            (λ done. take done.1 memory.new ≡ stretch_octets (parameters_of self.settings) octets []) }
+        ensures call { let call = call_acquire octets memory.old in
+            MatchResult result
+            (λ done. IsStep (carrier_session self) call (locked_session done.0) (take done.1 memory.new) [])
+            (λ back. IsStep (carrier_session self) call (carrier_session back.0) [] []) }
         ensures promise { SessionPromise }
     {
         let settings = self.settings;
@@ -223,7 +228,7 @@ impl Carrier {
     /// Lowers the carrier.
     pub fn lower(self) -> Silent
         ensures answer { result ≡ silent_with self.settings }
-        ensures call { IsStep (carrier_session self) call_lower (silent_session result) [] }
+        ensures call { IsStep (carrier_session self) call_lower (silent_session result) [] [] }
     {
         let Carrier { settings } = self;
         Silent { settings }
@@ -238,10 +243,11 @@ impl Locked {
     pub fn idle(&self, octets: usize, memory: &mut [u8]) -> Result<usize, Refusal>
         ensures answer { result ≡ idle_answer 1 2000 octets memory.old }
         ensures memory { memory.new ≡ memory_after (repeated self.now.settings.idle octets) memory.old result }
-        ensures stretch { IfOk result (λ count. GoesOn self.now.settings (idles octets ∷ []) (take count memory.new)) }
-        ensures call { MatchResult result
-            (λ count. IsStep (locked_session self.now) (call_idle octets memory.old) (locked_session self.now) (take count memory.new))
-            (λ why. IsStep (locked_session self.now) (call_idle octets memory.old) (locked_session self.now) []) }
+        ensures stretch { IfOk result
+            (λ count. GoesOn self.now.settings (idles octets ∷ []) (take count memory.new)) }
+        ensures call { let here = locked_session self.now in
+            let call = call_idle octets memory.old in
+            MatchResult result (λ count. IsStep here call here (take count memory.new) []) (λ why. IsStep here call here [] []) }
     {
         self.settings
             .write_idle(octets, LEAST_IDLE, MOST_IDLE, memory)
@@ -258,12 +264,17 @@ impl Locked {
         memory: &mut [u8],
     ) -> Result<(AfterSending, usize), (Locked, Refusal)>
         ensures answer { result ≡ sending self (job_answer self.settings frames.now (only_frame frame) memory.old) }
-        ensures memory { memory.new ≡ memory_after (job_octets self.settings frames.now (only_frame frame)) memory.old (job_answer self.settings frames.now (only_frame frame) memory.old) }
-        ensures stretch { IfOk result (λ done. GoesOn self.settings (writings_of frames.now (only_frame frame)) (take done.1 memory.new)) }
-        ensures fits { IfOk result (λ _. FramesWithin self.settings.sender.limit.count (frames_in (writings_of frames.now (only_frame frame)))) }
-        ensures call { MatchResult result
-            (λ done. IsStep (locked_session self) (call_send frames.now frame memory.old) (session_after done.0) (take done.1 memory.new))
-            (λ back. IsStep (locked_session self) (call_send frames.now frame memory.old) (locked_session back.0) []) }
+        ensures memory { let answer = job_answer self.settings frames.now (only_frame frame) memory.old in
+            memory.new ≡ memory_after (job_octets self.settings frames.now (only_frame frame)) memory.old answer }
+        ensures stretch { IfOk result
+            (λ done. GoesOn self.settings (writings_of frames.now (only_frame frame)) (take done.1 memory.new)) }
+        ensures fits { let limit = self.settings.sender.limit.count in
+            IfOk result (λ _. FramesWithin limit (frames_in (writings_of frames.now (only_frame frame)))) }
+        ensures call { let call = call_send frames.now frame memory.old in
+            let frames = frame_at frames.now frame ∷ [] in
+            MatchResult result
+            (λ done. IsStep (locked_session self) call (session_after done.0) (take done.1 memory.new) frames)
+            (λ back. IsStep (locked_session self) call (locked_session back.0) [] []) }
     {
         self.run(frames, Job { frame, idle: 0 }, memory)
     }
@@ -280,15 +291,19 @@ impl Locked {
         memory: &mut [u8],
     ) -> Result<(AfterSending, usize), (Locked, Refusal)>
         ensures answer { result ≡ sending self (next_answer self.settings frames.now (waiting jobs.old) memory.old) }
-        ensures memory { memory.new ≡ memory_after (next_octets self.settings frames.now (waiting jobs.old)) memory.old (next_answer self.settings frames.now (waiting jobs.old) memory.old) }
+        ensures memory { let answer = next_answer self.settings frames.now (waiting jobs.old) memory.old in
+            memory.new ≡ memory_after (next_octets self.settings frames.now (waiting jobs.old)) memory.old answer }
         ensures accepted { OnOk result (slots_of jobs.new ≡ without_oldest (slots_of jobs.old)) }
         ensures refused { OnErr result (jobs.new ≡ jobs.old) }
-        ensures stretch { IfOk result (λ done. GoesOn self.settings (next_writings self.settings frames.now (waiting jobs.old)) (take done.1 memory.new)) }
-        ensures fits { IfOk result (λ _. FramesWithin self.settings.sender.limit.count (frames_in (next_writings self.settings frames.now (waiting jobs.old)))) }
+        ensures stretch { let writings = next_writings self.settings frames.now (waiting jobs.old) in
+            IfOk result (λ done. GoesOn self.settings writings (take done.1 memory.new)) }
+        ensures fits { let writings = next_writings self.settings frames.now (waiting jobs.old) in
+            IfOk result (λ _. FramesWithin self.settings.sender.limit.count (frames_in writings)) }
         ensures call { let call = call_run_next (waiting jobs.old) frames.now memory.old in
+            let frames = frames_in (next_writings self.settings frames.now (waiting jobs.old)) in
             MatchResult result
-            (λ done. IsStep (locked_session self) call (session_after done.0) (take done.1 memory.new))
-            (λ back. IsStep (locked_session self) call (locked_session back.0) []) }
+            (λ done. IsStep (locked_session self) call (session_after done.0) (take done.1 memory.new) frames)
+            (λ back. IsStep (locked_session self) call (locked_session back.0) [] []) }
     {
         let Some(job) = jobs.front().copied() else {
             return Err((self, Refusal::QueueEmpty));
@@ -306,7 +321,8 @@ impl Locked {
         memory: &mut [u8],
     ) -> Result<(AfterSending, usize), (Locked, Refusal)>
         ensures answer { result ≡ sending self (job_answer self.settings frames.now job memory.old) }
-        ensures memory { memory.new ≡ memory_after (job_octets self.settings frames.now job) memory.old (job_answer self.settings frames.now job memory.old) }
+        ensures memory { let answer = job_answer self.settings frames.now job memory.old in
+            memory.new ≡ memory_after (job_octets self.settings frames.now job) memory.old answer }
     {
         let settings = self.settings;
         match settings.write_job(frames, job, memory) {
@@ -318,7 +334,7 @@ impl Locked {
     /// Breaks the modulation: the carrier bears no data any more, and a receiver's carrier is down.
     pub fn break_modulation(self) -> Carrier
         ensures answer { result ≡ carrier_with self.settings }
-        ensures call { IsStep (locked_session self) call_break (carrier_session result) [] }
+        ensures call { IsStep (locked_session self) call_break (carrier_session result) [] [] }
     {
         let Locked { settings } = self;
         Carrier { settings }
@@ -331,10 +347,11 @@ impl Sent {
     pub fn idle(&self, octets: usize, memory: &mut [u8]) -> Result<usize, Refusal>
         ensures answer { result ≡ idle_answer 1 2000 octets memory.old }
         ensures memory { memory.new ≡ memory_after (repeated self.now.settings.idle octets) memory.old result }
-        ensures stretch { IfOk result (λ count. GoesOn self.now.settings (idles octets ∷ []) (take count memory.new)) }
-        ensures call { MatchResult result
-            (λ count. IsStep (sent_session self.now) (call_idle octets memory.old) (sent_session self.now) (take count memory.new))
-            (λ why. IsStep (sent_session self.now) (call_idle octets memory.old) (sent_session self.now) []) }
+        ensures stretch { IfOk result
+            (λ count. GoesOn self.now.settings (idles octets ∷ []) (take count memory.new)) }
+        ensures call { let here = sent_session self.now in
+            let call = call_idle octets memory.old in
+            MatchResult result (λ count. IsStep here call here (take count memory.new) []) (λ why. IsStep here call here [] []) }
     {
         self.settings
             .write_idle(octets, LEAST_IDLE, MOST_IDLE, memory)
@@ -343,7 +360,7 @@ impl Sent {
     /// Breaks the modulation: the carrier bears no data any more, and a receiver's carrier is down.
     pub fn break_modulation(self) -> Carrier
         ensures answer { result ≡ carrier_with self.settings }
-        ensures call { IsStep (sent_session self) call_break (carrier_session result) [] }
+        ensures call { IsStep (sent_session self) call_break (carrier_session result) [] [] }
     {
         let Sent { settings } = self;
         Carrier { settings }
