@@ -55,10 +55,10 @@ stays_down (carrier_down ∷ es) e = stays_down es e
 stays_down (symbol b ∷ es) e = stays_down es e
 stays_down (release ∷ es) e = stays_down es e
 
-same_bit : (x y : Bool) (xs ys : List Signal) → bit x ∷ xs ≡ bit y ∷ ys → (x ≡ y) × (xs ≡ ys)
+pub same_bit : (x y : Bool) (xs ys : List Signal) → bit x ∷ xs ≡ bit y ∷ ys → (x ≡ y) × (xs ≡ ys)
 same_bit x y xs ys e = (cc, cc)
 
-same_rest : (x : Signal) (xs ys : List Signal) → x ∷ xs ≡ x ∷ ys → xs ≡ ys
+pub same_rest : (x : Signal) (xs ys : List Signal) → x ∷ xs ≡ x ∷ ys → xs ≡ ys
 same_rest x xs ys e = cc
 
 pub stays_up : (es : List Event) (xs : List Bool) → heard true es ≡ map bit xs → CarrierStaysUp es × (symbols_in es ≡ xs)

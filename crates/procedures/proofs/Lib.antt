@@ -3,4 +3,5 @@ pub mod Hearing
 pub mod Stretches
 pub mod Appended
 pub mod Rooms
+pub mod Seen
 pub mod Received

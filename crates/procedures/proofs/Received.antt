@@ -27,7 +27,8 @@ use Rattle.procedures.specs.Signals.{Signal, goes_up, bit, goes_down, signals_of
 use Rattle.procedures.specs.Reception.{FramesWithin, codeblocks_of, ReceivedStretch, events_of_stretch, BroughtUndamaged, frames_of, as_sent, one_open, Adds, SpaceAt, SpaceInTime, EndsIn, WhatIsHeardInTimeIsReceived, SpaceForAllIsSpaceInTime, AStretchInTimeIsReceived, AStretchIsReceived, ASessionInTimeIsReceived, ASessionIsReceived, SessionPromise}
 use Rattle.procedures.proofs.Hearing.{signals_append, heard_append, up_append, symbols_heard, heard_up, heard_down, stays_down, stays_up, goes_up_at, goes_down_at, more_heard, none_heard}
 use Rattle.procedures.proofs.Stretches.{idle_events, repeated_on, cltu_first, a_stretch_is_cltus_with_idle_between}
-use Rattle.procedures.proofs.Rooms.{room_left}
+use Rattle.procedures.proofs.Rooms.{room_left, capacity_stays}
+use Rattle.procedures.proofs.Seen.{space_seen_is_space_at}
 
 pub within_both : (limit : ℕ) (frames others : List (List ℕ)) → FramesWithin limit frames → FramesWithin limit others → FramesWithin limit (frames ++ others)
 within_both limit [] others within more = more
@@ -403,6 +404,8 @@ session_promise =
       session_in_time = a_session_in_time_is_received;
       heard_in_time = what_is_heard_in_time_is_received;
       space_for_all = space_for_all_is_space_in_time;
+      space_seen = space_seen_is_space_at;
+      capacity = capacity_stays;
       heard_together = heard_append;
       up_together = up_append;
       heard_symbols = symbols_heard;

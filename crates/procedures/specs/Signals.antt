@@ -1,5 +1,5 @@
--- What is on the carrier, stretch after stretch, and what a receiver hears of it: its carrier goes up with an acquisition, bits follow, and
--- it goes down with the break. Assumes nothing.
+-- What is on the carrier, stretch after stretch, and what a receiver hears of it: its carrier goes up with an
+-- acquisition, bits follow, and it goes down with the break. Assumes nothing.
 use Rattle.std.specs.Prelude.{ℕ, Bool, true, false, List, [], ◌∷◌, ◌++◌, map, Some, None, Option}
 use Rattle.std.specs.List.{flat_map}
 use Rattle.bch.specs.Bits.{bits_of}
@@ -71,7 +71,8 @@ module _ (parameters : Parameters) where
   abbrev pub cltus_of_closed : List Signal → List (List ℕ) → List SentStretch → List PlacedCltu
   cltus_of_closed before earlier [] = []
   cltus_of_closed before earlier (one ∷ more) =
-      cltus_of before earlier one ++ cltus_of_closed (before ++ closed_signals one) (earlier ++ frames_in one.writings) more
+      cltus_of before earlier one
+      ++ cltus_of_closed (before ++ closed_signals one) (earlier ++ frames_in one.writings) more
 
   abbrev pub cltus_of_opened : List Signal → List (List ℕ) → Option SentStretch → List PlacedCltu
   cltus_of_opened before earlier None = []
@@ -82,8 +83,8 @@ module _ (parameters : Parameters) where
       cltus_of_closed [] [] on.closed
       ++ cltus_of_opened (flat_map closed_signals on.closed) (frames_of_closed on.closed) on.opened
 
--- what a receiver hears by events, whose carrier is up or down before them: what it refuses it does not hear, and a release is none
--- of it
+-- what a receiver hears by events, whose carrier is up or down before them: what it refuses it does not hear, and a
+-- release is none of it
 abbrev pub heard : (up : Bool) → List Event → List Signal
 heard up [] = []
 heard false (carrier_up ∷ es) = goes_up ∷ heard true es

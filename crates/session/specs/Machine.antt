@@ -1,5 +1,6 @@
--- The calls of a session as a machine: where a session stands after any list of calls, and what they put on the carrier. A call that is
--- refused, and one that the session does not have where it stands, changes nothing and writes nothing. Assumes nothing.
+-- The calls of a session as a machine: where a session stands after any list of calls, and what they put on the
+-- carrier. A call that is refused, and one that the session does not have where it stands, changes nothing and writes
+-- nothing. Assumes nothing.
 use Rattle.std.specs.Prelude.{◌≡◌, ℕ, Bool, true, false, List, [], ◌∷◌, ◌++◌, map, Ok, Err, Result}
 use Rattle.std.specs.Int.Digits.{AllBelowBase}
 use Rattle.std.specs.List.{AllByRecursion}
@@ -82,7 +83,11 @@ module _ (settings : Settings) where
   step locked (call_send frames frame memory) =
       let job = only_frame frame in
       if_accepted (job_answer settings frames job memory) locked
-      (record { after = behind_a_frame settings.plop; written = job_octets settings frames job; frames = frames_in (writings_of frames job) })
+      (record {
+        after = behind_a_frame settings.plop;
+        written = job_octets settings frames job;
+        frames = frames_in (writings_of frames job);
+      })
   step locked (call_run_next jobs frames memory) =
       if_accepted (next_answer settings frames jobs memory) locked
       (record {
@@ -128,7 +133,8 @@ module _ (settings : Settings) where
   abbrev pub signals_of_calls : List Call → List Signal
   signals_of_calls [] = []
   signals_of_calls (latest ∷ earlier) =
-      signals_of_calls earlier ++ signals_of_step (standing_after earlier) (step settings (standing_after earlier) latest)
+      signals_of_calls earlier
+      ++ signals_of_step (standing_after earlier) (step settings (standing_after earlier) latest)
 
   abbrev pub frames_of_calls : List Call → List (List ℕ)
   frames_of_calls [] = []
@@ -137,7 +143,8 @@ module _ (settings : Settings) where
   -- each CLTU comes first in what its call writes
   abbrev pub cltus_behind : List Call → List (List ℕ) → List PlacedCltu
   cltus_behind earlier frames =
-      map (λ frame. record { before = signals_of_calls earlier; earlier = frames_of_calls earlier; frame = frame }) frames
+      map
+      (λ frame. record { before = signals_of_calls earlier; earlier = frames_of_calls earlier; frame = frame }) frames
 
   abbrev pub cltus_of_calls : List Call → List PlacedCltu
   cltus_of_calls [] = []
@@ -166,7 +173,8 @@ session_after (now_sent it) = sent_session it
 session_after (still_locked it) = locked_session it
 
 -- a call led from this session to that one, wrote these octets with these frames among them, as the machine does
-pub record IsStep (before : Session) (call : Call) (after : Session) (written : List ℕ) (frames : List (List ℕ)) : Type 0 where
+pub record IsStep
+    (before : Session) (call : Call) (after : Session) (written : List ℕ) (frames : List (List ℕ)) : Type 0 where
   pub settings : after.settings ≡ before.settings
   pub standing : after.standing ≡ (step before.settings before.standing call).after
   pub octets : written ≡ (step before.settings before.standing call).written

@@ -21,8 +21,8 @@ pub record InOrder (settings : Settings) (one : SentStretch) : Type 0 where
   pub frames : FramesWithin settings.sender.limit.count (frames_in one.writings)
   pub alone : settings.plop ≡ One → length (frames_in one.writings) ≤ 1
 
--- what calls put on the carrier is stretches, one behind the other, and nothing outside of them. The last is open just where the
--- session's carrier bears data
+-- what calls put on the carrier is stretches, one behind the other, and nothing outside of them. The last is open just
+-- where the session's carrier bears data
 pub record AreStretches (settings : Settings) (calls : List Call) : Type 0 where
   pub on : Stretches
   pub signals : signals_of_calls settings calls ≡ signals_on (parameters_of settings) on
@@ -33,10 +33,14 @@ pub record AreStretches (settings : Settings) (calls : List Call) : Type 0 where
   pub last : is_some on.opened ≡ bears_data (standing_after settings calls)
 
 abbrev pub AnyCallsAreStretches : Type 0
-AnyCallsAreStretches = (settings : Settings) (calls : List Call) → AllByRecursion FrameMemoryOfOctets calls → AreStretches settings calls
+AnyCallsAreStretches =
+    (settings : Settings) (calls : List Call) → AllByRecursion FrameMemoryOfOctets calls → AreStretches settings calls
 
--- a call that is a step of the machine is the latest of the calls: what it puts on the carrier comes behind what they did
-pub record GoesOnBehind (earlier : List Call) (before : Session) (call : Call) (after : Session) (written : List ℕ) (frames : List (List ℕ)) : Type 0 where
+-- a call that is a step of the machine is the latest of the calls: what it puts on the carrier comes behind what they
+-- did
+pub record GoesOnBehind
+    (earlier : List Call) (before : Session) (call : Call) (after : Session)
+    (written : List ℕ) (frames : List (List ℕ)) : Type 0 where
   pub stands : StandsAfter (call ∷ earlier) after
   pub settings : after.settings ≡ before.settings
   pub signals :
@@ -49,7 +53,8 @@ pub record GoesOnBehind (earlier : List Call) (before : Session) (call : Call) (
 
 abbrev pub AStepGoesOn : Type 0
 AStepGoesOn =
-    (earlier : List Call) (before : Session) (call : Call) (after : Session) (written : List ℕ) (frames : List (List ℕ)) →
+    (earlier : List Call) (before : Session) (call : Call) (after : Session)
+    (written : List ℕ) (frames : List (List ℕ)) →
     StandsAfter earlier before → IsStep before call after written frames →
     GoesOnBehind earlier before call after written frames
 
@@ -65,14 +70,15 @@ EndsUp true s = Clear s.phase s.held
 EndsUp false s = s.phase ≡ INACTIVE
 
 module _ (receiver : ReceiverSettings) (showing : Showing) where
-  -- a receiver that is INACTIVE and hears what the calls put on the carrier, and whose hold has space at the first bit of each CLTU,
-  -- adds exactly the frames of the calls, in order
+  -- a receiver that is INACTIVE and hears what the calls put on the carrier, and whose hold has space at the first bit of
+  -- each CLTU, adds exactly the frames of the calls, in order
   abbrev pub AnyCallsInTimeAreReceived : Type 0
   AnyCallsInTimeAreReceived =
       (settings : Settings) (calls : List Call) (hold : Held) (earlier events : List Event) →
       let randomizer = settings.sender.randomizer in
       let then = after_events receiver showing (made hold) earlier in
-      AllByRecursion FrameMemoryOfOctets calls → then.phase ≡ INACTIVE → heard false events ≡ signals_of_calls settings calls →
+      AllByRecursion FrameMemoryOfOctets calls → then.phase ≡ INACTIVE →
+      heard false events ≡ signals_of_calls settings calls →
       FramesWithin receiver.limit (frames_of_calls settings calls) →
       AllByRecursion (SpaceAt receiver showing randomizer then events) (cltus_of_calls settings calls) →
       EndsUp (bears_data (standing_after settings calls)) (after_events receiver showing then events)
@@ -83,8 +89,10 @@ module _ (receiver : ReceiverSettings) (showing : Showing) where
   AnyCallsAreReceived =
       (settings : Settings) (calls : List Call) (hold : Held) (earlier events : List Event) →
       let then = after_events receiver showing (made hold) earlier in
-      AllByRecursion FrameMemoryOfOctets calls → then.phase ≡ INACTIVE → heard false events ≡ signals_of_calls settings calls →
-      FramesWithin receiver.limit (frames_of_calls settings calls) → codeblocks_of (frames_of_calls settings calls) ≤ room then.held →
+      AllByRecursion FrameMemoryOfOctets calls → then.phase ≡ INACTIVE →
+      heard false events ≡ signals_of_calls settings calls →
+      FramesWithin receiver.limit (frames_of_calls settings calls) →
+      codeblocks_of (frames_of_calls settings calls) ≤ room then.held →
       EndsUp (bears_data (standing_after settings calls)) (after_events receiver showing then events)
       × Adds receiver showing settings.sender.randomizer (frames_of_calls settings calls) then events
 

@@ -247,7 +247,9 @@ impl Locked {
             (λ count. GoesOn self.now.settings (idles octets ∷ []) (take count memory.new)) }
         ensures call { let here = locked_session self.now in
             let call = call_idle octets memory.old in
-            MatchResult result (λ count. IsStep here call here (take count memory.new) []) (λ why. IsStep here call here [] []) }
+            MatchResult result
+            (λ count. IsStep here call here (take count memory.new) [])
+            (λ why. IsStep here call here [] []) }
     {
         self.settings
             .write_idle(octets, LEAST_IDLE, MOST_IDLE, memory)
@@ -351,7 +353,9 @@ impl Sent {
             (λ count. GoesOn self.now.settings (idles octets ∷ []) (take count memory.new)) }
         ensures call { let here = sent_session self.now in
             let call = call_idle octets memory.old in
-            MatchResult result (λ count. IsStep here call here (take count memory.new) []) (λ why. IsStep here call here [] []) }
+            MatchResult result
+            (λ count. IsStep here call here (take count memory.new) [])
+            (λ why. IsStep here call here [] []) }
     {
         self.settings
             .write_idle(octets, LEAST_IDLE, MOST_IDLE, memory)
