@@ -1,115 +1,38 @@
--- A stretch is received. Assumes nothing.
-use Rattle.std.proofs.Common.{◌≡◌, ℕ, ◌+◌, ◌≤◌, List, [], ◌∷◌, ◌++◌, map, length, None, sym, refl, ap, ap₂, ◌∙◌, subst, append_assoc, append-nil, arith}
+-- What is heard is received. Assumes nothing.
+use Rattle.std.proofs.Common.{◌≡◌, ℕ, ◌+◌, ◌≤◌, Bool, true, false, List, [], ◌∷◌, ◌++◌, map, length, Some, None, Option, sym, refl, ap, ap₂, ◌∙◌, subst, append_assoc, append-nil, arith}
 use Rattle.std.specs.Int.Digits.{AllBelowBase}
-use Rattle.std.specs.List.{flat_map}
-use Rattle.std.proofs.lemmas.List.{map-append}
+use Rattle.std.specs.List.{flat_map, AllByRecursion}
+use Rattle.std.proofs.lemmas.List.{map-append, replicate-append-replicate}
+use Rattle.bch.specs.Bits.{bits_of}
 use Rattle.randomizer.specs.declared.Randomizer.{Randomizer}
 use Rattle.randomizer.specs.Sequence.{randomized}
-use Rattle.cltu.specs.Cltu.{codeblocks_for, filled}
+use Rattle.cltu.specs.Cltu.{codeblocks_for, filled, cltu}
 use Rattle.cltu.proofs.Places.{length_sent}
 use Rattle.hold.specs.Candidates.{Candidate, Showing, shown_from, Matches, finished_codeblocks}
 use Rattle.reception.specs.Decoding.{Settings, Held, room}
-use Rattle.reception.specs.Rules.{Phase, INACTIVE, SEARCH, DECODE, State, state, Event, carrier_up, carrier_down, at_up, made}
+use Rattle.reception.specs.Rules.{Phase, INACTIVE, SEARCH, DECODE, State, state, Event, carrier_up, carrier_down, symbol, made}
 use Rattle.reception.specs.Runs.{after_events, symbols_in, CarrierStaysUp, Clear}
-use Rattle.reception.specs.Allowance.{ReceivedCltu, symbols_of, WithinAllowance, undamaged}
-use Rattle.reception.specs.Finished.{announced, new_candidates}
-use Rattle.reception.specs.Gaps.{IdleOrNothing, CarrierStaysDown}
-use Rattle.reception.specs.Sent.{Transmission, events_of, WellSent}
+use Rattle.reception.specs.Allowance.{undamaged}
+use Rattle.reception.specs.Finished.{new_candidates}
+use Rattle.reception.specs.Gaps.{CarrierStaysDown}
+use Rattle.reception.specs.Sent.{as_shown, Transmission, WellSent}
 use Rattle.reception.proofs.Brings.{after_append, new_append}
 use Rattle.reception.proofs.Decoding.{length_shown_from}
 use Rattle.reception.proofs.Finished.{run_keeps}
-use Rattle.reception.proofs.Kept.{KeptState, run_keeps as kept_on, kept_from_making, none_open_in_inactive}
+use Rattle.reception.proofs.Kept.{KeptState, kept_from_making, none_open_in_inactive}
 use Rattle.reception.proofs.Sent.{idle_gap, away_comes, one_well_sent, under_filled, shown_back}
 use Rattle.reception.proofs.Undamaged.{as_sent_is_within_the_allowance}
-use Rattle.procedures.specs.Stretch.{Parameters, frames_in}
-use Rattle.procedures.specs.Reception.{SentUndamaged, FramesWithin, codeblocks_of, ReceivedStretch, events_of_stretch, BroughtUndamaged, frames_of, AStretchIsReceived, ASessionIsReceived, SessionPromise}
-use Rattle.procedures.proofs.Stretches.{a_stretch_is_cltus_with_idle_between}
-use Rattle.procedures.proofs.Rooms.{room_left}
+use Rattle.procedures.specs.Stretch.{idle_octet, repeated, idle_behind, Parameters, sent_octets, Writing, idles, sends, octets_in, stretch_octets, frames_in}
+use Rattle.procedures.specs.Signals.{Signal, goes_up, bit, goes_down, signals_of_octets, SentStretch, Stretches, frames_of_closed, frames_of_opened, frames_on, PlacedCltu, closed_signals, signals_of_opened, cltus_in, cltus_of, cltus_of_closed, cltus_of_opened, heard, up_after}
+use Rattle.procedures.specs.Reception.{FramesWithin, codeblocks_of, ReceivedStretch, events_of_stretch, BroughtUndamaged, frames_of, as_sent, one_open, Adds, SpaceAt, SpaceInTime, EndsIn, WhatIsHeardInTimeIsReceived, SpaceForAllIsSpaceInTime, AStretchInTimeIsReceived, AStretchIsReceived, ASessionInTimeIsReceived, ASessionIsReceived, SessionPromise}
+use Rattle.procedures.proofs.Hearing.{signals_append, heard_append, up_append, symbols_heard, heard_up, heard_down, stays_down, stays_up, goes_up_at, goes_down_at, more_heard, none_heard}
+use Rattle.procedures.proofs.Stretches.{idle_events, repeated_on, cltu_first, a_stretch_is_cltus_with_idle_between}
+use Rattle.procedures.proofs.Rooms.{room_left, capacity_stays}
+use Rattle.procedures.proofs.Seen.{space_seen_is_space_at}
 
-module _ (settings : Settings) (showing : Showing) (randomizer : Randomizer) where
-  abbrev run : State → List Event → State
-  run = after_events settings showing
-
-  abbrev news : State → List Event → List Candidate
-  news = new_candidates settings showing
-
-  abbrev shown : List ℕ → Candidate
-  shown frame = shown_from showing 0 (randomized randomizer (filled frame))
-
-  abbrev ClearState : State → Type 0
-  ClearState s = Clear s.phase s.held
-
-  -- an undamaged CLTU that is given space
-  well_sent : (s : State) (t : Transmission) (frame : List ℕ) → t.frame ≡ frame → t.received ≡ undamaged randomizer frame → CarrierStaysUp t.events → symbols_in t.events ≡ symbols_of t.received →
-      AllBelowBase 256 frame → 1 ≤ length frame → codeblocks_for (length frame) ≤ settings.limit → codeblocks_for (length frame) ≤ room s.held → WellSent settings showing randomizer s t
-  well_sent s t frame same undamaged-one up symbols octets some few space =
-      let P = λ (f : List ℕ) (r : ReceivedCltu). WithinAllowance settings (randomized randomizer (filled f)) r in
-      let sent = as_sent_is_within_the_allowance settings randomizer frame octets some few in
-      record {
-        octets = subst (λ f. AllBelowBase 256 f) (sym same) octets;
-        carrier = up;
-        symbols = symbols;
-        within = subst (λ f. P f t.received) (sym same) (subst (λ r. P frame r) (sym undamaged-one) sent.0);
-        space = omega (arith, ap (λ r. length r.blocks) undamaged-one, sent.2);
-      }
-
-  codeblocks_shown : (frame : List ℕ) → finished_codeblocks (shown frame ∷ []) ≡ codeblocks_for (length frame)
-  codeblocks_shown frame = omega (arith, length_shown_from showing 0 (randomized randomizer (filled frame)), length_sent randomizer frame)
-
-  pub record StretchIn (frames : List (List ℕ)) (s : State) (es : List Event) : Type 0 where
-    pub clear : ClearState (run s es)
-    pub new : news s es ≡ map shown frames
-
-  joined : (frames : List (List ℕ)) (frame : List ℕ) (s : State) (gap own rest : List Event) (there : State) (h : Held) → run s gap ≡ there → news s gap ≡ [] → run there own ≡ state (SEARCH 0 0) h → news there own ≡ shown frame ∷ [] →
-      StretchIn frames (state (SEARCH 0 0) h) rest → StretchIn (frame ∷ frames) s (gap ++ (own ++ rest))
-  joined frames frame s gap own rest there h at none after new more =
-      record {
-        clear = subst ClearState (sym (after_append settings showing gap (own ++ rest) s ∙ ap (λ u. run u (own ++ rest)) at ∙ after_append settings showing own rest there ∙ ap (λ u. run u rest) after)) more.clear;
-        new = new_append settings showing gap (own ++ rest) s ∙ ap₂ (λ (l : List Candidate) (u : State). l ++ news u (own ++ rest)) none at
-            ∙ new_append settings showing own rest there ∙ ap₂ (λ (l : List Candidate) (u : State). l ++ news u rest) new after ∙ ap (λ l. shown frame ∷ l) more.new;
-      }
-
-  all_in : (frames : List (List ℕ)) (ts : List Transmission) (behind : List Event) (h : Held) → h.opened ≡ None → SentUndamaged randomizer frames ts → IdleOrNothing behind →
-      FramesWithin settings.limit frames → codeblocks_of frames ≤ room h → StretchIn frames (state (SEARCH 0 0) h) (events_of ts ++ behind)
-  all_in [] [] behind h none sent idle within space =
-      let w = idle_gap settings showing behind h none idle in
-      record { clear = subst ClearState (sym w.after) (w.opened, (w.next, w.calm)); new = w.new }
-  all_in [] (t ∷ ts) behind h none sent idle within space = absurd sent
-  all_in (frame ∷ frames) [] behind h none sent idle within space = absurd sent
-  all_in (frame ∷ frames) (t ∷ ts) behind h none sent idle within space =
-      let s = state (SEARCH 0 0) h in
-      let gap = idle_gap settings showing t.gap h none sent.0 in
-      let there = run s t.gap in
-      let none-there = ap (λ u. u.held.opened) gap.after ∙ gap.opened in
-      let kept-here : KeptState settings.limit s = (none, omega arith) in
-      let kept = room_left settings showing s t.gap kept-here none none-there in
-      let well = well_sent there t frame sent.1 sent.2 sent.3 sent.4 within.0 within.1 within.2 (omega (arith, kept, ap finished_codeblocks gap.new)) in
-      let one = one_well_sent settings showing randomizer there gap.next gap.count gap.window gap.hold t gap.after gap.opened gap.calm well in
-      let new = one.goes.news ∙ ap (λ f. shown f ∷ []) sent.1 in
-      let less = room_left settings showing there t.events (kept_on settings showing s t.gap kept-here) none-there (ap (λ u. u.held.opened) one.goes.after ∙ one.opened) in
-      let more = all_in frames ts behind one.hold one.opened sent.5 idle within.3
-      (omega (arith, kept, ap finished_codeblocks gap.new, less, ap finished_codeblocks new, codeblocks_shown frame, ap (λ u. room u.held) one.goes.after)) in
-      let whole = joined frames frame s t.gap t.events (events_of ts ++ behind) there one.hold refl gap.new one.goes.after new more in
-      subst (λ es. StretchIn (frame ∷ frames) s es) (sym (append_assoc t.gap (t.events ++ events_of ts) behind ∙ ap (λ l. t.gap ++ l) (append_assoc t.events (events_of ts) behind))) whole
-
-  as_filled : (frames : List (List ℕ)) → FramesWithin settings.limit frames → Matches showing randomizer → map shown frames ≡ map filled frames
-  as_filled [] within matches = refl
-  as_filled (frame ∷ frames) within matches = ap₂ ◌∷◌ (shown_back showing randomizer matches 0 (filled frame) (under_filled frame within.0)) (as_filled frames within.3 matches)
-
-module _ (settings : Settings) (showing : Showing) where
-  pub a_stretch_is_received : AStretchIsReceived settings showing
-  a_stretch_is_received parameters acquisition writings hold earlier later inactive up symbols within space =
-      let r = parameters.randomizer in
-      let then = after_events settings showing (made hold) earlier in
-      let parts = a_stretch_is_cltus_with_idle_between parameters acquisition writings later up symbols in
-      let none = none_open_in_inactive settings showing hold earlier inactive in
-      let inside = all_in settings showing r (frames_in writings) parts.sent parts.behind then.held none parts.undamaged parts.idle within space in
-      let at = ap (λ p. (at_up p then.held).after) inactive in
-      let whole = subst (λ es. StretchIn settings showing r (frames_in writings) (state (SEARCH 0 0) then.held) es) (sym parts.whole) inside in
-      let new = ap (λ p. announced then.held.opened (at_up p then.held).reports ++ new_candidates settings showing (at_up p then.held).after later) inactive ∙ whole.new in
-      (subst (λ u. Clear (after_events settings showing u later).phase (after_events settings showing u later).held) (sym at) whole.clear, record { shown = new; filled_frames = λ matches. new ∙ as_filled settings showing r (frames_in writings) within matches; added = run_keeps settings showing then (carrier_up ∷ later) (kept_from_making settings showing hold earlier) })
-
--- ---- stretch after stretch
+pub within_both : (limit : ℕ) (frames others : List (List ℕ)) → FramesWithin limit frames → FramesWithin limit others → FramesWithin limit (frames ++ others)
+within_both limit [] others within more = more
+within_both limit (frame ∷ frames) others within more = (within.0, within.1, within.2, within_both limit frames others within.3 more)
 
 within_front : (limit : ℕ) (frames others : List (List ℕ)) → FramesWithin limit (frames ++ others) → FramesWithin limit frames
 within_front limit [] others within = tt
@@ -123,52 +46,367 @@ codeblocks_of_both : (frames others : List (List ℕ)) → codeblocks_of (frames
 codeblocks_of_both [] others = omega arith
 codeblocks_of_both (frame ∷ frames) others = omega (arith, codeblocks_of_both frames others)
 
-module _ (settings : Settings) (showing : Showing) where
-  codeblocks_of_shown : (r : Randomizer) (frames : List (List ℕ)) → finished_codeblocks (map (shown settings showing r) frames) ≡ codeblocks_of frames
-  codeblocks_of_shown r [] = refl
-  codeblocks_of_shown r (frame ∷ frames) = omega (arith, codeblocks_shown settings showing r frame, codeblocks_of_shown r frames)
+all_front : {X : Type 0} (P : X → Type 0) (xs ys : List X) → AllByRecursion P (xs ++ ys) → AllByRecursion P xs
+all_front P [] ys all = tt
+all_front P (x ∷ xs) ys all = (all.0, all_front P xs ys all.1)
 
-  comes_down : (p : Phase) (h : Held) (away : List Event) → Clear p h → CarrierStaysDown away →
-      ((after_events settings showing (state p h) (carrier_down ∷ away)).phase ≡ INACTIVE) × (new_candidates settings showing (state p h) (carrier_down ∷ away) ≡ [])
-  comes_down INACTIVE h away clear down = absurd clear
-  comes_down (SEARCH count window) h away clear down = let w = away_comes settings showing away h down in (ap (λ u. u.phase) w.after, w.new)
-  comes_down (DECODE r) h away clear down = absurd clear
+all_back : {X : Type 0} (P : X → Type 0) (xs ys : List X) → AllByRecursion P (xs ++ ys) → AllByRecursion P ys
+all_back P [] ys all = all
+all_back P (x ∷ xs) ys all = all_back P xs ys all.1
 
-  all_received : (parameters : Parameters) (stretches : List ReceivedStretch) (hold : Held) (earlier : List Event) →
-      let then = after_events settings showing (made hold) earlier in
-      let events = flat_map events_of_stretch stretches in
-      then.phase ≡ INACTIVE → BroughtUndamaged parameters stretches → FramesWithin settings.limit (frames_of stretches) → codeblocks_of (frames_of stretches) ≤ room then.held →
-      ((after_events settings showing then events).phase ≡ INACTIVE) × (new_candidates settings showing then events ≡ map (shown settings showing parameters.randomizer) (frames_of stretches))
-  all_received parameters [] hold earlier inactive brought within space = (inactive, refl)
-  all_received parameters (one ∷ more) hold earlier inactive brought within space =
-      let r = parameters.randomizer in
-      let then = after_events settings showing (made hold) earlier in
+all_both : {X : Type 0} (P : X → Type 0) (xs ys : List X) → AllByRecursion P xs → AllByRecursion P ys → AllByRecursion P (xs ++ ys)
+all_both P [] ys all more = more
+all_both P (x ∷ xs) ys all more = (all.0, all_both P xs ys all.1 more)
+
+none_open : (p : Phase) (h : Held) → Clear p h → h.opened ≡ None
+none_open INACTIVE h clear = absurd clear
+none_open (SEARCH count window) h clear = clear.0
+none_open (DECODE r) h clear = absurd clear
+
+module _ (settings : Settings) (showing : Showing) (randomizer : Randomizer) where
+  abbrev run : State → List Event → State
+  run = after_events settings showing
+
+  abbrev news : State → List Event → List Candidate
+  news = new_candidates settings showing
+
+  abbrev shown : List ℕ → Candidate
+  shown frame = as_shown showing randomizer frame
+
+  abbrev ClearState : State → Type 0
+  ClearState s = Clear s.phase s.held
+
+  codeblocks_shown : (frame : List ℕ) → finished_codeblocks (shown frame ∷ []) ≡ codeblocks_for (length frame)
+  codeblocks_shown frame = omega (arith, length_shown_from showing 0 (randomized randomizer (filled frame)), length_sent randomizer frame)
+
+  codeblocks_of_shown : (frames : List (List ℕ)) → finished_codeblocks (map shown frames) ≡ codeblocks_of frames
+  codeblocks_of_shown [] = refl
+  codeblocks_of_shown (frame ∷ frames) = omega (arith, codeblocks_shown frame, codeblocks_of_shown frames)
+
+  as_filled : (frames : List (List ℕ)) → FramesWithin settings.limit frames → Matches showing randomizer → map shown frames ≡ map filled frames
+  as_filled [] within matches = refl
+  as_filled (frame ∷ frames) within matches = ap₂ ◌∷◌ (shown_back showing randomizer matches 0 (filled frame) (under_filled frame within.0)) (as_filled frames within.3 matches)
+
+  pub adds : (frames : List (List ℕ)) (s : State) (es : List Event) → KeptState settings.limit s → FramesWithin settings.limit frames → news s es ≡ map shown frames → Adds settings showing randomizer frames s es
+  adds frames s es kept within new = record { shown = new; filled_frames = λ matches. new ∙ as_filled frames within matches; added = run_keeps settings showing s es kept }
+
+  -- an undamaged CLTU that is given space
+  well_sent : (s : State) (t : Transmission) → t.received ≡ undamaged randomizer t.frame → CarrierStaysUp t.events → symbols_in t.events ≡ bits_of (cltu randomizer t.frame) →
+      AllBelowBase 256 t.frame → 1 ≤ length t.frame → codeblocks_for (length t.frame) ≤ settings.limit → codeblocks_for (length t.frame) ≤ room s.held → WellSent settings showing randomizer s t
+  well_sent s t is up symbols octets some few space =
+      let sent = as_sent_is_within_the_allowance settings randomizer t.frame octets some few in
+      subst (λ r. WellSent settings showing randomizer s (record { gap = t.gap; frame = t.frame; received = r; events = t.events })) (sym is)
+      (record { octets = octets; carrier = up; symbols = symbols ∙ sym sent.1; within = sent.0; space = omega (arith, sent.2) })
+
+module _ (settings : Settings) (showing : Showing) (parameters : Parameters) (start : State) (all : List Event) where
+  abbrev r : Randomizer
+  r = parameters.randomizer
+
+  abbrev from_start : List Event → State
+  from_start = after_events settings showing start
+
+  abbrev Space : PlacedCltu → Type 0
+  Space = SpaceAt settings showing r start all
+
+  -- from the start these frames were added, and no candidate is open
+  pub record In (frames : List (List ℕ)) (es : List Event) : Type 0 where
+    pub clear : ClearState settings showing r (from_start es)
+    pub new : new_candidates settings showing start es ≡ map (shown settings showing r) frames
+
+  -- what is known behind events that were heard
+  pub record Known (p : Phase) (up : Bool) (done : List Event) (h : Held) (earlier : List (List ℕ)) (before : List Signal) : Type 0 where
+    pub at : from_start done ≡ state p h
+    pub none : h.opened ≡ None
+    pub signals : heard false done ≡ before
+    pub carrier : up_after false done ≡ up
+    pub new : new_candidates settings showing start done ≡ map (shown settings showing r) earlier
+    pub within : FramesWithin settings.limit earlier
+
+  -- more idle behind signals that end with idle
+  more_idle : (before until : List Signal) (a b : ℕ) → before ++ signals_of_octets (repeated parameters.idle a) ≡ until →
+      before ++ signals_of_octets (repeated parameters.idle (a + b)) ≡ until ++ signals_of_octets (repeated parameters.idle b)
+  more_idle before until a b e =
+      let own = repeated parameters.idle a in
+      let more = repeated parameters.idle b in
+      ap (λ l. before ++ signals_of_octets l) (sym (replicate-append-replicate a b (idle_octet parameters.idle)))
+      ∙ ap (λ l. before ++ l) (signals_append own more) ∙ sym (append_assoc before (signals_of_octets own) (signals_of_octets more)) ∙ ap (λ l. l ++ signals_of_octets more) e
+
+  -- what is left of a stretch, behind what was heard of it, with so many idle octets first
+  inside : (writings : List Writing) (idle : ℕ) (done events rest es : List Event) (h : Held) (earlier : List (List ℕ)) (before until : List Signal) →
+      KeptState settings.limit start → es ≡ done ++ events → all ≡ es ++ rest → Known (SEARCH 0 0) true done h earlier before → before ++ signals_of_octets (repeated parameters.idle idle) ≡ until →
+      CarrierStaysUp events → symbols_in events ≡ bits_of (repeated parameters.idle idle ++ flat_map (octets_in parameters) writings) → FramesWithin settings.limit (frames_in writings) →
+      AllByRecursion Space (cltus_in parameters until earlier writings) → In (earlier ++ frames_in writings) es
+  inside [] idle done events rest es h earlier before until kept is whole known until-is up symbols few space =
+      let w = idle_gap settings showing events h known.none (idle_events parameters.idle idle events up (symbols ∙ ap bits_of (append-nil (repeated parameters.idle idle)))) in
+      let there = ap from_start is ∙ after_append settings showing done events start ∙ ap (λ u. after_events settings showing u events) known.at ∙ w.after in
+      record {
+        clear = subst (ClearState settings showing r) (sym there) (w.opened, (w.next, w.calm));
+        new = ap (new_candidates settings showing start) is ∙ new_append settings showing done events start ∙ ap₂ ◌++◌ known.new (ap (λ u. new_candidates settings showing u events) known.at ∙ w.new)
+            ∙ sym (map-append (shown settings showing r) earlier []);
+      }
+  inside (idles octets ∷ writings) idle done events rest es h earlier before until kept is whole known until-is up symbols few space =
+      inside writings (idle + octets) done events rest es h earlier before (until ++ signals_of_octets (repeated parameters.idle octets)) kept is whole known
+      (more_idle before until idle octets until-is) up (symbols ∙ ap bits_of (repeated_on parameters.idle idle octets (flat_map (octets_in parameters) writings))) few space
+  inside (sends frame ∷ writings) idle done events rest es h earlier before until kept is whole known until-is up symbols few space =
+      let more = flat_map (octets_in parameters) writings in
+      let c = cltu_first parameters frame idle more events up symbols in
+      let own = cltu r frame in
+      let tail = repeated parameters.idle (idle_behind parameters.plop) in
+      let to_first = done ++ c.gap in
+      let gap = idle_gap settings showing c.gap h known.none (idle_events parameters.idle idle c.gap c.gap_up c.gap_symbols) in
+      let at = after_append settings showing done c.gap start ∙ ap (λ u. after_events settings showing u c.gap) known.at ∙ gap.after in
+      let new = new_append settings showing done c.gap start ∙ ap₂ ◌++◌ known.new (ap (λ u. new_candidates settings showing u c.gap) known.at ∙ gap.new) ∙ append-nil (map (shown settings showing r) earlier) in
+      let calm : ClearState settings showing r (from_start to_first) = subst (ClearState settings showing r) (sym at) (gap.opened, (gap.next, gap.calm)) in
+      let hears = more_heard done c.gap before (bits_of (repeated parameters.idle idle)) known.signals known.carrier c.gap_up c.gap_symbols in
+      let parted = whole ∙ ap (λ l. l ++ rest) (is ∙ ap (λ l. done ++ l) c.begins ∙ sym (append_assoc done c.gap (symbol c.first ∷ c.later))) ∙ append_assoc to_first (symbol c.first ∷ c.later) rest in
+      let fits = space.0 to_first (c.later ++ rest) c.first parted (hears.0 ∙ until-is) calm (adds settings showing r earlier start to_first kept known.within new) in
+      let t : Transmission = record { gap = c.gap; frame = frame; received = undamaged r frame; events = c.own } in
+      let well = well_sent settings showing r (from_start to_first) t refl c.up c.symbols few.0 few.1 few.2 fits in
+      let one = one_well_sent settings showing r (from_start to_first) gap.next gap.count gap.window gap.hold t at gap.opened gap.calm well in
+      let hears-own = more_heard to_first c.own until (bits_of own) (hears.0 ∙ until-is) hears.1 c.up c.symbols in
+      let behind : Known (SEARCH 0 0) true (to_first ++ c.own) one.hold (earlier ++ frame ∷ []) (until ++ signals_of_octets own) =
+      record {
+        at = after_append settings showing to_first c.own start ∙ one.goes.after;
+        none = one.opened;
+        signals = hears-own.0;
+        carrier = hears-own.1;
+        new = new_append settings showing to_first c.own start ∙ ap₂ ◌++◌ new one.goes.news ∙ sym (map-append (shown settings showing r) earlier (frame ∷ []));
+        within = within_both settings.limit earlier (frame ∷ []) known.within (few.0, few.1, few.2, tt);
+      } in
+      let last = inside writings (idle_behind parameters.plop) (to_first ++ c.own) c.behind rest es one.hold (earlier ++ frame ∷ []) (until ++ signals_of_octets own) (until ++ signals_of_octets (own ++ tail)) kept
+      (is ∙ ap (λ l. done ++ l) c.whole ∙ sym (append_assoc done c.gap (c.own ++ c.behind)) ∙ sym (append_assoc to_first c.own c.behind)) whole behind
+      (append_assoc until (signals_of_octets own) (signals_of_octets tail) ∙ ap (λ l. until ++ l) (sym (signals_append own tail))) c.stays c.rest few.3 space.1 in
+      subst (λ frames. In frames es) (append_assoc earlier (frame ∷ []) (frames_in writings)) last
+
+  -- the carrier goes up
+  pub record Up (done : List Event) (earlier : List (List ℕ)) (before : List Signal) : Type 0 where
+    pub hold : Held
+    pub known : Known (SEARCH 0 0) true done hold earlier before
+
+  comes_up : (done away : List Event) (h : Held) (earlier : List (List ℕ)) (before : List Signal) → Known INACTIVE false done h earlier before → CarrierStaysDown away →
+      Up (done ++ (away ++ (carrier_up ∷ []))) earlier (before ++ (goes_up ∷ []))
+  comes_up done away h earlier before known down =
+      let w = away_comes settings showing away h down in
+      let own = heard_down away down in
+      let es = away ++ (carrier_up ∷ []) in
+      record {
+        hold = w.hold;
+        known =
+            record {
+              at = after_append settings showing done es start ∙ ap (λ u. after_events settings showing u es) known.at ∙ after_append settings showing away (carrier_up ∷ []) (state INACTIVE h)
+                  ∙ ap (λ u. after_events settings showing u (carrier_up ∷ [])) w.after;
+              none = w.opened ∙ known.none;
+              signals = none_heard done es before known.signals known.carrier (goes_up ∷ []) (heard_append false away (carrier_up ∷ []) ∙ ap₂ ◌++◌ own.0 (ap (λ u. heard u (carrier_up ∷ [])) own.1));
+              carrier = up_append false done es ∙ up_append (up_after false done) away (carrier_up ∷ []);
+              new = new_append settings showing done es start
+                  ∙ ap₂ ◌++◌ known.new (ap (λ u. new_candidates settings showing u es) known.at ∙ new_append settings showing away (carrier_up ∷ []) (state INACTIVE h)
+                  ∙ ap₂ (λ (l : List Candidate) (u : State). l ++ new_candidates settings showing u (carrier_up ∷ [])) w.new w.after)
+                  ∙ append-nil (map (shown settings showing r) earlier);
+              within = known.within;
+            };
+      }
+
+  -- and down
+  pub record Down (s : State) : Type 0 where
+    pub hold : Held
+    pub after : after_events settings showing s (carrier_down ∷ []) ≡ state INACTIVE hold
+    pub none : hold.opened ≡ None
+    pub new : new_candidates settings showing s (carrier_down ∷ []) ≡ []
+
+  comes_down : (s : State) → ClearState settings showing r s → Down s
+  comes_down s clear = by s.phase s.held clear
+    where
+      by : (p : Phase) (h : Held) → Clear p h → Down (state p h)
+      by INACTIVE h c = absurd c
+      by (SEARCH count window) h c = record { hold = h; after = refl; none = c.0; new = refl }
+      by (DECODE reading) h c = absurd c
+
+  regroup : (done away behind : List Event) (e : Event) → done ++ (away ++ (e ∷ behind)) ≡ (done ++ (away ++ (e ∷ []))) ++ behind
+  regroup done away behind e = sym (append_assoc done (away ++ (e ∷ [])) behind ∙ ap (λ l. done ++ l) (append_assoc away (e ∷ []) behind))
+
+  pub record Through (opened : Option SentStretch) (frames : List (List ℕ)) : Type 0 where
+    pub ends : EndsIn settings showing opened (from_start all)
+    pub new : new_candidates settings showing start all ≡ map (shown settings showing r) frames
+
+  -- a stretch, from where the carrier goes up
+  one_stretch : (one : SentStretch) (done during rest es : List Event) (earlier : List (List ℕ)) (before : List Signal) → KeptState settings.limit start → es ≡ done ++ during → all ≡ es ++ rest →
+      Up done earlier (before ++ (goes_up ∷ [])) → CarrierStaysUp during → symbols_in during ≡ bits_of (stretch_octets parameters one.acquisition one.writings) → FramesWithin settings.limit (frames_in one.writings) →
+      AllByRecursion Space (cltus_of parameters before earlier one) → In (earlier ++ frames_in one.writings) es
+  one_stretch one done during rest es earlier before kept is whole up stays symbols few space =
+      let own = signals_of_octets (repeated parameters.idle one.acquisition) in
+      inside one.writings one.acquisition done during rest es up.hold earlier (before ++ (goes_up ∷ [])) (before ++ (goes_up ∷ own)) kept is whole up.known (append_assoc before (goes_up ∷ []) own) stays symbols few space
+
+  through : (closed : List SentStretch) (opened : Option SentStretch) (done events : List Event) (h : Held) (earlier before-open : List (List ℕ)) (before until : List Signal) → KeptState settings.limit start →
+      all ≡ done ++ events → Known INACTIVE false done h earlier before → heard false events ≡ flat_map (closed_signals parameters) closed ++ signals_of_opened parameters opened →
+      FramesWithin settings.limit (frames_of_closed closed) → FramesWithin settings.limit (frames_of_opened opened) → AllByRecursion Space (cltus_of_closed parameters before earlier closed) →
+      until ≡ before ++ flat_map (closed_signals parameters) closed → before-open ≡ earlier ++ frames_of_closed closed → AllByRecursion Space (cltus_of_opened parameters until before-open opened) →
+      Through opened (earlier ++ (frames_of_closed closed ++ frames_of_opened opened))
+  through [] None done events h earlier before-open before until kept whole known hears few few-open space until-is open-is space-open =
+      let w = away_comes settings showing events h (stays_down events hears) in
+      let there = ap from_start whole ∙ after_append settings showing done events start ∙ ap (λ u. after_events settings showing u events) known.at ∙ w.after in
+      record {
+        ends = ap (λ u. u.phase) there;
+        new = ap (new_candidates settings showing start) whole ∙ new_append settings showing done events start ∙ ap₂ ◌++◌ known.new (ap (λ u. new_candidates settings showing u events) known.at ∙ w.new)
+            ∙ sym (map-append (shown settings showing r) earlier []);
+      }
+  through [] (Some one) done events h earlier before-open before until kept whole known hears few few-open space until-is open-is space-open =
+      let g = goes_up_at events _ hears in
+      let stays = stays_up g.behind (bits_of (stretch_octets parameters one.acquisition one.writings)) g.rest in
+      let up = done ++ (g.away ++ (carrier_up ∷ [])) in
+      let here = subst (λ l. AllByRecursion Space l) (ap₂ (λ (b : List Signal) (e : List (List ℕ)). cltus_of parameters b e one) (until-is ∙ append-nil before) (open-is ∙ append-nil earlier)) space-open in
+      let own = one_stretch one up g.behind [] all earlier before kept (whole ∙ ap (λ l. done ++ l) g.whole ∙ regroup done g.away g.behind carrier_up) (sym (append-nil all))
+      (comes_up done g.away h earlier before known g.down) stays.0 stays.1 few-open here in
+      record { ends = own.clear; new = own.new }
+  through (one ∷ more) opened done events h earlier before-open before until kept whole known hears few few-open space until-is open-is space-open =
+      let own = signals_of_octets (stretch_octets parameters one.acquisition one.writings) in
+      let behind = flat_map (closed_signals parameters) more in
+      let last = signals_of_opened parameters opened in
+      let g = goes_up_at events _ hears in
+      let d = goes_down_at g.behind (bits_of (stretch_octets parameters one.acquisition one.writings)) (behind ++ last)
+      (g.rest ∙ ap (λ l. l ++ last) (append_assoc own (goes_down ∷ []) behind) ∙ append_assoc own (goes_down ∷ behind) last) in
+      let up = done ++ (g.away ++ (carrier_up ∷ [])) in
+      let es = up ++ d.during in
+      let rest = carrier_down ∷ d.behind in
+      let parted = whole ∙ ap (λ l. done ++ l) g.whole ∙ regroup done g.away g.behind carrier_up ∙ ap (λ l. up ++ l) d.whole ∙ sym (append_assoc up d.during rest) in
+      let is-up = comes_up done g.away h earlier before known g.down in
       let frames = frames_in one.writings in
-      let others = frames_of more in
-      let up = carrier_up ∷ one.during in
-      let down = carrier_down ∷ one.away in
-      let there = after_events settings showing then up in
-      let own = a_stretch_is_received settings showing parameters one.acquisition one.writings hold earlier one.during inactive brought.0 brought.1 (within_front settings.limit frames others within) (omega (arith, codeblocks_of_both frames others)) in
-      let gone = comes_down there.phase there.held one.away own.0 brought.2 in
-      let all = events_of_stretch one in
-      let last = after_append settings showing up down then in
-      let next = after_append settings showing earlier all (made hold) in
-      let there-too = ap (λ u. u.phase) next ∙ ap (λ u. u.phase) last ∙ gone.0 in
-      let new = new_append settings showing up down then ∙ ap₂ ◌++◌ own.1.shown gone.1 ∙ append-nil (map (shown settings showing r) frames) in
-      let none = none_open_in_inactive settings showing hold earlier inactive in
-      let none-next = none_open_in_inactive settings showing hold (earlier ++ all) there-too in
-      let left = room_left settings showing then all (kept_from_making settings showing hold earlier) none (ap (λ u. u.held.opened) (sym next) ∙ none-next) in
-      let rest = all_received parameters more hold (earlier ++ all) there-too brought.3 (within_back settings.limit frames others within)
-      (omega (arith, left, ap finished_codeblocks new, codeblocks_of_shown r frames, codeblocks_of_both frames others, ap (λ u. room u.held) next)) in
-      let behind = flat_map events_of_stretch more in (
-        ap (λ u. u.phase) (after_append settings showing all behind then) ∙ ap (λ u. (after_events settings showing u behind).phase) (sym next) ∙ rest.0,
-        new_append settings showing all behind then ∙ ap₂ ◌++◌ new (ap (λ u. new_candidates settings showing u behind) (sym next) ∙ rest.1) ∙ sym (map-append (shown settings showing r) frames others),
+      let its = cltus_of parameters before earlier one in
+      let others = cltus_of_closed parameters (before ++ closed_signals parameters one) (earlier ++ frames) more in
+      let few-one = within_front settings.limit frames (frames_of_closed more) few in
+      let inner = one_stretch one up d.during rest es earlier before kept refl parted is-up d.up d.symbols few-one (all_front Space its others space) in
+      let down = comes_down (from_start es) inner.clear in
+      let hears-own = more_heard up d.during (before ++ (goes_up ∷ [])) (bits_of (stretch_octets parameters one.acquisition one.writings)) is-up.known.signals is-up.known.carrier d.up d.symbols in
+      let known-next : Known INACTIVE false (es ++ (carrier_down ∷ [])) down.hold (earlier ++ frames) (before ++ closed_signals parameters one) =
+      record {
+        at = after_append settings showing es (carrier_down ∷ []) start ∙ down.after;
+        none = down.none;
+        signals = heard_append false es (carrier_down ∷ []) ∙ ap₂ ◌++◌ hears-own.0 (ap (λ u. heard u (carrier_down ∷ [])) hears-own.1) ∙ append_assoc (before ++ (goes_up ∷ [])) own (goes_down ∷ []) ∙ append_assoc before (goes_up ∷ []) (own ++ (goes_down ∷ []));
+        carrier = up_append false es (carrier_down ∷ []);
+        new = new_append settings showing es (carrier_down ∷ []) start ∙ ap₂ ◌++◌ inner.new down.new ∙ append-nil (map (shown settings showing r) (earlier ++ frames));
+        within = within_both settings.limit earlier frames known.within few-one;
+      } in
+      let next = through more opened (es ++ (carrier_down ∷ [])) d.behind down.hold (earlier ++ frames) before-open (before ++ closed_signals parameters one) until kept
+      (parted ∙ sym (append_assoc es (carrier_down ∷ []) d.behind)) known-next d.rest (within_back settings.limit frames (frames_of_closed more) few) few-open (all_back Space its others space)
+      (until-is ∙ sym (append_assoc before (closed_signals parameters one) behind)) (open-is ∙ sym (append_assoc earlier frames (frames_of_closed more))) space-open in
+      subst (λ l. Through opened l) (append_assoc earlier frames (frames_of_closed more ++ frames_of_opened opened) ∙ ap (λ l. earlier ++ l) (sym (append_assoc frames (frames_of_closed more) (frames_of_opened opened)))) next
+
+  -- ---- space for all of them
+
+  space_by_count : (one : PlacedCltu) → KeptState settings.limit start → start.held.opened ≡ None → codeblocks_of one.earlier + codeblocks_for (length one.frame) ≤ room start.held → Space one
+  space_by_count one kept none few before after b parted hears clear added =
+      let here = from_start before in
+      let left = room_left settings showing start before kept none (none_open here.phase here.held clear) in
+      omega (arith, left, ap finished_codeblocks added.shown, codeblocks_of_shown settings showing r one.earlier)
+
+  module _ (kept : KeptState settings.limit start) (none : start.held.opened ≡ None) where
+    space_in : (writings : List Writing) (before : List Signal) (earlier : List (List ℕ)) → codeblocks_of earlier + codeblocks_of (frames_in writings) ≤ room start.held →
+        AllByRecursion Space (cltus_in parameters before earlier writings)
+    space_in [] before earlier few = tt
+    space_in (idles octets ∷ writings) before earlier few = space_in writings (before ++ signals_of_octets (repeated parameters.idle octets)) earlier few
+    space_in (sends frame ∷ writings) before earlier few = (
+      space_by_count (record { before = before; earlier = earlier; frame = frame }) kept none (omega arith),
+      space_in writings (before ++ signals_of_octets (sent_octets parameters frame)) (earlier ++ frame ∷ []) (omega (arith, codeblocks_of_both earlier (frame ∷ []))),
+    )
+
+    space_closed : (closed : List SentStretch) (before : List Signal) (earlier : List (List ℕ)) → codeblocks_of earlier + codeblocks_of (frames_of_closed closed) ≤ room start.held →
+        AllByRecursion Space (cltus_of_closed parameters before earlier closed)
+    space_closed [] before earlier few = tt
+    space_closed (one ∷ more) before earlier few =
+        let frames = frames_in one.writings in
+        let both = codeblocks_of_both frames (frames_of_closed more) in
+        all_both Space (cltus_of parameters before earlier one) (cltus_of_closed parameters (before ++ closed_signals parameters one) (earlier ++ frames) more)
+        (space_in one.writings (before ++ (goes_up ∷ signals_of_octets (repeated parameters.idle one.acquisition))) earlier (omega (arith, both)))
+        (space_closed more (before ++ closed_signals parameters one) (earlier ++ frames) (omega (arith, both, codeblocks_of_both earlier frames)))
+
+    space_opened : (opened : Option SentStretch) (before : List Signal) (earlier : List (List ℕ)) → codeblocks_of earlier + codeblocks_of (frames_of_opened opened) ≤ room start.held →
+        AllByRecursion Space (cltus_of_opened parameters before earlier opened)
+    space_opened None before earlier few = tt
+    space_opened (Some one) before earlier few = space_in one.writings (before ++ (goes_up ∷ signals_of_octets (repeated parameters.idle one.acquisition))) earlier few
+
+    pub space_for_both : (on : Stretches) → codeblocks_of (frames_on on) ≤ room start.held → SpaceInTime settings showing parameters start all on
+    space_for_both on few =
+        let both = codeblocks_of_both (frames_of_closed on.closed) (frames_of_opened on.opened) in
+        all_both Space (cltus_of_closed parameters [] [] on.closed) (cltus_of_opened parameters (flat_map (closed_signals parameters) on.closed) (frames_of_closed on.closed) on.opened)
+        (space_closed on.closed [] [] (omega (arith, both)))
+        (space_opened on.opened (flat_map (closed_signals parameters) on.closed) (frames_of_closed on.closed) (omega (arith, both)))
+
+module _ (settings : Settings) (showing : Showing) where
+  pub what_is_heard_in_time_is_received : WhatIsHeardInTimeIsReceived settings showing
+  what_is_heard_in_time_is_received parameters on hold earlier events inactive hears few space =
+      let then = after_events settings showing (made hold) earlier in
+      let kept = kept_from_making settings showing hold earlier in
+      let closed = cltus_of_closed parameters [] [] on.closed in
+      let opened = cltus_of_opened parameters (flat_map (closed_signals parameters) on.closed) (frames_of_closed on.closed) on.opened in
+      let P = SpaceAt settings showing parameters.randomizer then events in
+      let known : Known settings showing parameters then events INACTIVE false [] then.held [] [] =
+      record { at = ap (λ p. state p then.held) inactive; none = none_open_in_inactive settings showing hold earlier inactive; signals = refl; carrier = refl; new = refl; within = tt } in
+      let both = through settings showing parameters then events on.closed on.opened [] events then.held [] (frames_of_closed on.closed) [] (flat_map (closed_signals parameters) on.closed) kept refl known hears
+      (within_front settings.limit (frames_of_closed on.closed) (frames_of_opened on.opened) few) (within_back settings.limit (frames_of_closed on.closed) (frames_of_opened on.opened) few)
+      (all_front P closed opened space) refl refl (all_back P closed opened space) in
+      (both.ends, adds settings showing parameters.randomizer (frames_on on) then events kept few both.new)
+
+  pub space_for_all_is_space_in_time : SpaceForAllIsSpaceInTime settings showing
+  space_for_all_is_space_in_time parameters on hold earlier events inactive few =
+      space_for_both settings showing parameters (after_events settings showing (made hold) earlier) events (kept_from_making settings showing hold earlier) (none_open_in_inactive settings showing hold earlier inactive) on few
+
+  pub a_stretch_in_time_is_received : AStretchInTimeIsReceived settings showing
+  a_stretch_in_time_is_received parameters acquisition writings hold earlier later inactive up symbols few space =
+      what_is_heard_in_time_is_received parameters (one_open acquisition writings) hold earlier (carrier_up ∷ later) inactive
+      (ap (λ l. goes_up ∷ l) ((heard_up later up).0 ∙ ap (map bit) symbols)) few space
+
+  pub a_stretch_is_received : AStretchIsReceived settings showing
+  a_stretch_is_received parameters acquisition writings hold earlier later inactive up symbols few space =
+      a_stretch_in_time_is_received parameters acquisition writings hold earlier later inactive up symbols few
+      (space_for_all_is_space_in_time parameters (one_open acquisition writings) hold earlier (carrier_up ∷ later) inactive space)
+
+  -- ---- a session of closed stretches
+
+  frames_sent : (stretches : List ReceivedStretch) → frames_on (as_sent stretches) ≡ frames_of stretches
+  frames_sent [] = refl
+  frames_sent (one ∷ more) = append_assoc (frames_in one.writings) (frames_of_closed (as_sent more).closed) [] ∙ ap (λ l. frames_in one.writings ++ l) (frames_sent more)
+
+  session_heard : (parameters : Parameters) (stretches : List ReceivedStretch) → BroughtUndamaged parameters stretches →
+      heard false (flat_map events_of_stretch stretches) ≡ flat_map (closed_signals parameters) (as_sent stretches).closed
+  session_heard parameters [] brought = refl
+  session_heard parameters (one ∷ more) brought =
+      let own = heard_up one.during brought.0 in
+      let gone = heard_down one.away brought.2 in
+      let behind = flat_map events_of_stretch more in
+      let rest = heard_append false one.away behind ∙ ap₂ ◌++◌ gone.0 (ap (λ u. heard u behind) gone.1 ∙ session_heard parameters more brought.3) in
+      ap (λ l. goes_up ∷ l) (
+      ap (heard true) (append_assoc one.during (carrier_down ∷ one.away) behind) ∙ heard_append true one.during (carrier_down ∷ (one.away ++ behind))
+      ∙ ap₂ ◌++◌ (own.0 ∙ ap (map bit) brought.1) (ap (λ u. heard u (carrier_down ∷ (one.away ++ behind))) own.1 ∙ ap (λ l. goes_down ∷ l) rest)
+      ∙ sym (append_assoc (signals_of_octets (stretch_octets parameters one.acquisition one.writings)) (goes_down ∷ []) (flat_map (closed_signals parameters) (as_sent more).closed))
       )
 
+  pub a_session_in_time_is_received : ASessionInTimeIsReceived settings showing
+  a_session_in_time_is_received parameters stretches hold earlier inactive brought few space =
+      let frames = frames_sent stretches in
+      let then = after_events settings showing (made hold) earlier in
+      let events = flat_map events_of_stretch stretches in
+      let both = what_is_heard_in_time_is_received parameters (as_sent stretches) hold earlier events inactive
+      (session_heard parameters stretches brought ∙ sym (append-nil (flat_map (closed_signals parameters) (as_sent stretches).closed)))
+      (subst (λ l. FramesWithin settings.limit l) (sym frames) few) space in
+      (both.0, subst (λ l. Adds settings showing parameters.randomizer l then events) frames both.1)
+
   pub a_session_is_received : ASessionIsReceived settings showing
-  a_session_is_received parameters stretches hold earlier inactive brought within space =
-      let all = all_received parameters stretches hold earlier inactive brought within space in
-      (all.0, record { shown = all.1; filled_frames = λ matches. all.1 ∙ as_filled settings showing parameters.randomizer (frames_of stretches) within matches; added = run_keeps settings showing (after_events settings showing (made hold) earlier) (flat_map events_of_stretch stretches) (kept_from_making settings showing hold earlier) })
+  a_session_is_received parameters stretches hold earlier inactive brought few space =
+      a_session_in_time_is_received parameters stretches hold earlier inactive brought few
+      (space_for_all_is_space_in_time parameters (as_sent stretches) hold earlier (flat_map events_of_stretch stretches) inactive (omega (arith, space, ap codeblocks_of (frames_sent stretches))))
 
 pub session_promise : SessionPromise
-session_promise = record { cltus = a_stretch_is_cltus_with_idle_between; stretch = a_stretch_is_received; session = a_session_is_received }
+session_promise =
+    record {
+      cltus = a_stretch_is_cltus_with_idle_between;
+      stretch = a_stretch_is_received;
+      stretch_in_time = a_stretch_in_time_is_received;
+      session = a_session_is_received;
+      session_in_time = a_session_in_time_is_received;
+      heard_in_time = what_is_heard_in_time_is_received;
+      space_for_all = space_for_all_is_space_in_time;
+      space_seen = space_seen_is_space_at;
+      capacity = capacity_stays;
+      heard_together = heard_append;
+      up_together = up_append;
+      heard_symbols = symbols_heard;
+    }

@@ -10,6 +10,7 @@ use Rattle.reception.specs.Decoding.{Settings, Held, abandoning, adding, room, r
 use Rattle.reception.specs.Rules.{Phase, INACTIVE, SEARCH, DECODE, State, state, Event, carrier_up, carrier_down, symbol, release, Outcome, at_window, at_decoded, at_event}
 use Rattle.reception.specs.Runs.{after_events}
 use Rattle.reception.specs.Finished.{new_candidates, releases_accepted}
+use Rattle.procedures.specs.Reception.{TheCapacityStays}
 use Rattle.reception.proofs.Finished.{run_keeps}
 use Rattle.reception.proofs.Kept.{KeptState}
 
@@ -60,7 +61,7 @@ module _ (settings : Settings) (showing : Showing) where
   event_keeps s (symbol b) = symbol_keeps s.phase s.held b
   event_keeps s release = refl
 
-  capacity_stays : (s : State) (es : List Event) → (after_events settings showing s es).held.capacity ≡ s.held.capacity
+  pub capacity_stays : TheCapacityStays settings showing
   capacity_stays s [] = refl
   capacity_stays s (e ∷ es) = capacity_stays (at_event settings showing s e).after es ∙ event_keeps s e
 

@@ -29,7 +29,8 @@ pub record Parameters : Type 0 where
 
 -- a frame's CLTU with the idle octets of the procedure
 abbrev pub sent_octets : Parameters → List ℕ → List ℕ
-sent_octets parameters frame = cltu parameters.randomizer frame ++ repeated parameters.idle (idle_behind parameters.plop)
+sent_octets parameters frame =
+    cltu parameters.randomizer frame ++ repeated parameters.idle (idle_behind parameters.plop)
 
 -- what may be written behind an acquisition: so many idle octets, or a frame
 pub data Writing : Type 0 where
@@ -41,7 +42,8 @@ octets_in parameters (idles octets) = repeated parameters.idle octets
 octets_in parameters (sends frame) = sent_octets parameters frame
 
 abbrev pub stretch_octets : Parameters → (acquisition : ℕ) → List Writing → List ℕ
-stretch_octets parameters acquisition writings = repeated parameters.idle acquisition ++ flat_map (octets_in parameters) writings
+stretch_octets parameters acquisition writings =
+    repeated parameters.idle acquisition ++ flat_map (octets_in parameters) writings
 
 -- the frames among them, in order
 abbrev pub frames_in : List Writing → List (List ℕ)

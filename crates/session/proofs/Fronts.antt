@@ -20,10 +20,10 @@ use Rattle.session.specs.Calls.{acquired, sending, next_octets, next_answer, nex
 use Rattle.session.proofs.Written.{idle_goes_on, job_goes_on, only_acquired}
 
 -- answers that count these octets
-abbrev Counts : List ℕ → Result ℕ Refusal → Type 0
+abbrev pub Counts : List ℕ → Result ℕ Refusal → Type 0
 Counts octets answer = IfOk answer (λ n. n ≡ length octets)
 
-counts : (a b : Bool) (octets : List ℕ) (n : ℕ) (x y : Refusal) → n ≡ length octets → Counts octets (cond a (Err x) (cond b (Ok n) (Err y)))
+pub counts : (a b : Bool) (octets : List ℕ) (n : ℕ) (x y : Refusal) → n ≡ length octets → Counts octets (cond a (Err x) (cond b (Ok n) (Err y)))
 counts true b octets n x y e = tt
 counts false true octets n x y e = e
 counts false false octets n x y e = tt
@@ -53,8 +53,43 @@ pub octets_below : (xs : List ℕ) → ((i : ℕ) → Fits w8 (get_or xs i 0)) �
 octets_below [] h = tt
 octets_below (x ∷ xs) h = (omega (arith, h 0), octets_below xs (λ i. h (suc i)))
 
+positive : (n : ℕ) → (n ≡ 0 → ⊥) → 1 ≤ n
+positive zero some = absurd (some refl)
+positive (suc n) some = omega arith
+
+accepted_frame : (a : Bool) (rest : Result ℕ Refusal) → IfOk (cond a (Err FrameLength) rest) (λ _. a ≡ false)
+accepted_frame true rest = tt
+accepted_frame false (Ok n) = refl
+accepted_frame false (Err why) = tt
+
+-- an accepted frame is within the limit
+module _ (settings : Settings) where
+  pub job_within : (frames : List ℕ) (job : Job) (memory : List ℕ) → AllBelowBase 256 frames →
+      IfOk (job_answer settings frames job memory) (λ _. FramesWithin settings.sender.limit.count (frames_in (writings_of frames job)))
+  job_within frames job memory octets = by (job_answer settings frames job memory) (accepted_frame (nat_lt (length frames) (job.frame.place + job.frame.length) || frame_refused settings.sender.limit.count job.frame.length) _)
+    where
+      by : (answer : Result ℕ Refusal) → IfOk answer (λ _. nat_lt (length frames) (job.frame.place + job.frame.length) || frame_refused settings.sender.limit.count job.frame.length ≡ false) →
+          IfOk answer (λ _. FramesWithin settings.sender.limit.count (frames_in (writings_of frames job)))
+      by (Ok n) e =
+          let limit = settings.sender.limit.count in
+          let size = job.frame.length in
+          let parts = or_parts (nat_lt (length frames) (job.frame.place + size)) (frame_refused limit size) e in
+          let sizes = or_parts (eqb size 0) (nat_lt 1024 size || nat_lt (7 * limit) size) parts.1 in
+          let long = or_parts (nat_lt 1024 size) (nat_lt (7 * limit) size) sizes.1 in
+          let there = ltb-false (length frames) (job.frame.place + size) parts.0 in
+          let whole = length-take-le size (drop job.frame.place frames) (omega (arith, there, length-drop job.frame.place frames)) in
+          let some : size ≡ 0 → ⊥ = eqb-false size 0 sizes.0 in
+          let few = ltb-false (7 * limit) size long.1 in
+          (All-take (λ x. x < 256) size (drop job.frame.place frames) (All-drop (λ x. x < 256) job.frame.place frames octets), omega (arith, whole, positive size some), omega (arith, whole, few), tt)
+      by (Err why) e = tt
+
+  pub next_within : (frames : List ℕ) (jobs : List Job) (memory : List ℕ) → AllBelowBase 256 frames →
+      IfOk (next_answer settings frames jobs memory) (λ _. FramesWithin settings.sender.limit.count (frames_in (next_writings settings frames jobs)))
+  next_within frames [] memory octets = tt
+  next_within frames (job ∷ rest) memory octets = job_within frames job memory octets
+
 module _ (locked : Locked) where
-  counts_answer : (frames : List ℕ) (job : Job) (memory : List ℕ) → Counts (job_octets locked.settings frames job) (job_answer locked.settings frames job memory)
+  pub counts_answer : (frames : List ℕ) (job : Job) (memory : List ℕ) → Counts (job_octets locked.settings frames job) (job_answer locked.settings frames job memory)
   counts_answer frames job memory =
       let octets = job_octets locked.settings frames job in
       counts_job (nat_lt (length frames) (job.frame.place + job.frame.length) || frame_refused locked.settings.sender.limit.count job.frame.length) (nat_lt (length memory) (length octets)) (nat_lt 2000 job.idle) octets FrameLength MemoryTooShort IdleLength
@@ -76,38 +111,20 @@ module _ (locked : Locked) where
   next_in_front frames [] memory now result e is = subst (λ r. IfOk r (λ done. GoesOn locked.settings [] (take done.1 now))) (sym e) tt
   next_in_front frames (job ∷ rest) memory now result e is = job_in_front frames job memory now result e is
 
-  not_refused : (a : Bool) (rest : Result ℕ Refusal) → IfOk (sending locked (cond a (Err FrameLength) rest)) (λ _. a ≡ false)
-  not_refused true rest = tt
-  not_refused false (Ok n) = refl
-  not_refused false (Err why) = tt
+  sent_where_accepted : (P : Type 0) (answer : Result ℕ Refusal) → IfOk answer (λ _. P) → IfOk (sending locked answer) (λ _. P)
+  sent_where_accepted P (Ok n) holds = holds
+  sent_where_accepted P (Err why) holds = tt
 
-  positive : (n : ℕ) → (n ≡ 0 → ⊥) → 1 ≤ n
-  positive zero some = absurd (some refl)
-  positive (suc n) some = omega arith
-
-  job_fits : (frames : List ℕ) (job : Job) (memory : List ℕ) → AllBelowBase 256 frames →
+  pub job_fits : (frames : List ℕ) (job : Job) (memory : List ℕ) → AllBelowBase 256 frames →
       IfOk (sending locked (job_answer locked.settings frames job memory)) (λ _. FramesWithin locked.settings.sender.limit.count (frames_in (writings_of frames job)))
-  job_fits frames job memory octets = by (job_answer locked.settings frames job memory) (not_refused (nat_lt (length frames) (job.frame.place + job.frame.length) || frame_refused locked.settings.sender.limit.count job.frame.length) _)
-    where
-      by : (answer : Result ℕ Refusal) → IfOk (sending locked answer) (λ _. nat_lt (length frames) (job.frame.place + job.frame.length) || frame_refused locked.settings.sender.limit.count job.frame.length ≡ false) →
-          IfOk (sending locked answer) (λ _. FramesWithin locked.settings.sender.limit.count (frames_in (writings_of frames job)))
-      by (Ok n) e =
-          let limit = locked.settings.sender.limit.count in
-          let size = job.frame.length in
-          let parts = or_parts (nat_lt (length frames) (job.frame.place + size)) (frame_refused limit size) e in
-          let sizes = or_parts (eqb size 0) (nat_lt 1024 size || nat_lt (7 * limit) size) parts.1 in
-          let long = or_parts (nat_lt 1024 size) (nat_lt (7 * limit) size) sizes.1 in
-          let there = ltb-false (length frames) (job.frame.place + size) parts.0 in
-          let whole = length-take-le size (drop job.frame.place frames) (omega (arith, there, length-drop job.frame.place frames)) in
-          let some : size ≡ 0 → ⊥ = eqb-false size 0 sizes.0 in
-          let few = ltb-false (7 * limit) size long.1 in
-          (All-take (λ x. x < 256) size (drop job.frame.place frames) (All-drop (λ x. x < 256) job.frame.place frames octets), omega (arith, whole, positive size some), omega (arith, whole, few), tt)
-      by (Err why) e = tt
+  job_fits frames job memory octets =
+      sent_where_accepted (FramesWithin locked.settings.sender.limit.count (frames_in (writings_of frames job))) (job_answer locked.settings frames job memory) (job_within locked.settings frames job memory octets)
 
   pub next_fits : (frames : List ℕ) (jobs : List Job) (memory : List ℕ) (result : Result (AfterSending × ℕ) (Locked × Refusal)) → AllBelowBase 256 frames → result ≡ sending locked (next_answer locked.settings frames jobs memory) →
       IfOk result (λ _. FramesWithin locked.settings.sender.limit.count (frames_in (next_writings locked.settings frames jobs)))
-  next_fits frames [] memory result octets e = subst (λ r. IfOk r (λ _. Unit {0})) (sym e) tt
-  next_fits frames (job ∷ rest) memory result octets e = subst (λ r. IfOk r (λ _. FramesWithin locked.settings.sender.limit.count (frames_in (writings_of frames job)))) (sym e) (job_fits frames job memory octets)
+  next_fits frames jobs memory result octets e =
+      let P = FramesWithin locked.settings.sender.limit.count (frames_in (next_writings locked.settings frames jobs)) in
+      subst (λ r. IfOk r (λ _. P)) (sym e) (sent_where_accepted P (next_answer locked.settings frames jobs memory) (next_within locked.settings frames jobs memory octets))
 
 module _ (carrier : Carrier) where
   acquired_front : (octets : ℕ) (memory now : List ℕ) (answer : Result ℕ Refusal) → Counts (repeated carrier.settings.idle octets) answer → now ≡ memory_after (repeated carrier.settings.idle octets) memory answer →

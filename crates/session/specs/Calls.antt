@@ -19,7 +19,8 @@ use Rattle.session.specs.declared.AfterSending.TheVariants.{Sent as now_sent, Lo
 use Rattle.session.specs.Writing.{job_octets, job_answer, writings_of}
 
 -- a session was made, with these numbers
-pub record MadeWith (plop : Plop) (limit : ℕ) (randomizer : Randomizer) (idle : IdleOctet) (silent : Silent) : Type 0 where
+pub record MadeWith
+    (plop : Plop) (limit : ℕ) (randomizer : Randomizer) (idle : IdleOctet) (silent : Silent) : Type 0 where
   pub its-plop : silent.settings.plop ≡ plop
   pub its-limit : limit_answer limit ≡ Ok silent.settings.sender.limit.count
   pub its-randomizer : silent.settings.sender.randomizer ≡ randomizer

@@ -20,7 +20,8 @@ memory_after octets memory (Err why) = memory
 -- a sequence of idle octets: the lowest refusal that applies
 abbrev pub idle_answer : (least most octets : ℕ) → List ℕ → Result ℕ Refusal
 idle_answer least most octets memory =
-    cond (nat_lt (length memory) octets) (Err MemoryTooShort) (cond (is_in_range least most octets) (Ok octets) (Err IdleLength))
+    cond (nat_lt (length memory) octets) (Err MemoryTooShort)
+    (cond (is_in_range least most octets) (Ok octets) (Err IdleLength))
 
 -- a frame by its place in the caller's frame memory
 abbrev pub frame_at : List ℕ → FrameSpan → List ℕ
@@ -44,7 +45,9 @@ module _ (settings : Settings) (frames : List ℕ) (job : Job) where
   -- the lowest refusal that applies
   abbrev pub job_answer : List ℕ → Result ℕ Refusal
   job_answer memory =
-      cond (nat_lt (length frames) (job.frame.place + job.frame.length) || frame_refused settings.sender.limit.count job.frame.length) (Err FrameLength)
+      cond
+      (nat_lt (length frames) (job.frame.place + job.frame.length)
+      || frame_refused settings.sender.limit.count job.frame.length) (Err FrameLength)
       (cond (nat_lt (length memory) (length job_octets)) (Err MemoryTooShort)
       (cond (nat_lt 2000 job.idle) (Err IdleLength)
       (Ok (length job_octets))))
@@ -52,7 +55,9 @@ module _ (settings : Settings) (frames : List ℕ) (job : Job) where
 -- octets with which a stretch goes on, whatever was written in it before
 abbrev pub GoesOn : Settings → List Writing → List ℕ → Type 0
 GoesOn settings writings octets =
-    (acquisition : ℕ) (before : List Writing) → stretch_octets (parameters_of settings) acquisition before ++ octets ≡ stretch_octets (parameters_of settings) acquisition (before ++ writings)
+    (acquisition : ℕ) (before : List Writing) →
+    stretch_octets (parameters_of settings) acquisition before ++ octets
+    ≡ stretch_octets (parameters_of settings) acquisition (before ++ writings)
 
 -- what a job writes, as a part of a stretch
 abbrev pub writings_of : List ℕ → Job → List Writing

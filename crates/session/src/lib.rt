@@ -8,7 +8,9 @@ ghost use Rattle.procedures.specs.Stretch.{repeated, idles, stretch_octets, fram
 ghost use Rattle.procedures.specs.Reception.{SessionPromise, FramesWithin};
 ghost use Rattle.cltu.specs.Limit.{limit_answer};
 ghost use Rattle.session.specs.Calls.{MadeWith, silent_with, carrier_with, acquired, state_after, sending, only_frame, next_octets, next_answer, next_writings};
-ghost use Rattle.session.specs.Writing.{parameters_of, Found, NotWhole, idle_answer, job_octets, job_answer, memory_after, GoesOn, writings_of};
+ghost use Rattle.session.specs.Machine.{call_raise, call_lower, call_acquire, call_idle, call_send, call_run_next, call_break, silent_session, carrier_session, locked_session, sent_session, session_after, IsStep};
+ghost use Rattle.session.specs.Promise.{CallsPromise};
+ghost use Rattle.session.specs.Writing.{parameters_of, frame_at, Found, NotWhole, idle_answer, job_octets, job_answer, memory_after, GoesOn, writings_of};
 
 use cltu::{CodeblockLimit, Sender};
 use procedures::{IdleOctet, Plop};
@@ -170,7 +172,10 @@ impl Silent {
         randomizer: Randomizer,
         idle: IdleOctet,
     ) -> Result<Silent, Refusal>
-        ensures { MatchResult result (λ silent. MadeWith plop «limit» randomizer idle silent) (λ why. limit_answer «limit» ≡ Err why) }
+        ensures made { MatchResult result
+            (λ silent. MadeWith plop «limit» randomizer idle silent)
+            (λ why. limit_answer «limit» ≡ Err why) }
+        ensures promise { CallsPromise }
     {
         let limit = CodeblockLimit::try_from(limit)?;
         Ok(Silent {
@@ -184,7 +189,8 @@ impl Silent {
 
     /// Raises the carrier, which bears no data yet.
     pub fn raise(self) -> Carrier
-        ensures { result ≡ carrier_with self.settings }
+        ensures answer { result ≡ carrier_with self.settings }
+        ensures call { IsStep (silent_session self) call_raise (carrier_session result) [] [] }
     {
         let Silent { settings } = self;
         Carrier { settings }
@@ -202,8 +208,14 @@ impl Carrier {
         memory: &mut [u8],
     ) -> Result<(Locked, usize), (Carrier, Refusal)>
         ensures answer { result ≡ acquired self (idle_answer 16 255 octets memory.old) }
-        ensures memory { memory.new ≡ memory_after (repeated self.settings.idle octets) memory.old (idle_answer 16 255 octets memory.old) }
-        ensures stretch { IfOk result (λ done. take done.1 memory.new ≡ stretch_octets (parameters_of self.settings) octets []) }
+        ensures memory { memory.new
+            ≡ memory_after (repeated self.settings.idle octets) memory.old (idle_answer 16 255 octets memory.old) }
+        ensures stretch { IfOk result
+            (λ done. take done.1 memory.new ≡ stretch_octets (parameters_of self.settings) octets []) }
+        ensures call { let call = call_acquire octets memory.old in
+            MatchResult result
+            (λ done. IsStep (carrier_session self) call (locked_session done.0) (take done.1 memory.new) [])
+            (λ back. IsStep (carrier_session self) call (carrier_session back.0) [] []) }
         ensures promise { SessionPromise }
     {
         let settings = self.settings;
@@ -215,7 +227,8 @@ impl Carrier {
 
     /// Lowers the carrier.
     pub fn lower(self) -> Silent
-        ensures { result ≡ silent_with self.settings }
+        ensures answer { result ≡ silent_with self.settings }
+        ensures call { IsStep (carrier_session self) call_lower (silent_session result) [] [] }
     {
         let Carrier { settings } = self;
         Silent { settings }
@@ -230,7 +243,13 @@ impl Locked {
     pub fn idle(&self, octets: usize, memory: &mut [u8]) -> Result<usize, Refusal>
         ensures answer { result ≡ idle_answer 1 2000 octets memory.old }
         ensures memory { memory.new ≡ memory_after (repeated self.now.settings.idle octets) memory.old result }
-        ensures stretch { IfOk result (λ count. GoesOn self.now.settings (idles octets ∷ []) (take count memory.new)) }
+        ensures stretch { IfOk result
+            (λ count. GoesOn self.now.settings (idles octets ∷ []) (take count memory.new)) }
+        ensures call { let here = locked_session self.now in
+            let call = call_idle octets memory.old in
+            MatchResult result
+            (λ count. IsStep here call here (take count memory.new) [])
+            (λ why. IsStep here call here [] []) }
     {
         self.settings
             .write_idle(octets, LEAST_IDLE, MOST_IDLE, memory)
@@ -247,9 +266,17 @@ impl Locked {
         memory: &mut [u8],
     ) -> Result<(AfterSending, usize), (Locked, Refusal)>
         ensures answer { result ≡ sending self (job_answer self.settings frames.now (only_frame frame) memory.old) }
-        ensures memory { memory.new ≡ memory_after (job_octets self.settings frames.now (only_frame frame)) memory.old (job_answer self.settings frames.now (only_frame frame) memory.old) }
-        ensures stretch { IfOk result (λ done. GoesOn self.settings (writings_of frames.now (only_frame frame)) (take done.1 memory.new)) }
-        ensures fits { IfOk result (λ _. FramesWithin self.settings.sender.limit.count (frames_in (writings_of frames.now (only_frame frame)))) }
+        ensures memory { let answer = job_answer self.settings frames.now (only_frame frame) memory.old in
+            memory.new ≡ memory_after (job_octets self.settings frames.now (only_frame frame)) memory.old answer }
+        ensures stretch { IfOk result
+            (λ done. GoesOn self.settings (writings_of frames.now (only_frame frame)) (take done.1 memory.new)) }
+        ensures fits { let limit = self.settings.sender.limit.count in
+            IfOk result (λ _. FramesWithin limit (frames_in (writings_of frames.now (only_frame frame)))) }
+        ensures call { let call = call_send frames.now frame memory.old in
+            let frames = frame_at frames.now frame ∷ [] in
+            MatchResult result
+            (λ done. IsStep (locked_session self) call (session_after done.0) (take done.1 memory.new) frames)
+            (λ back. IsStep (locked_session self) call (locked_session back.0) [] []) }
     {
         self.run(frames, Job { frame, idle: 0 }, memory)
     }
@@ -266,11 +293,19 @@ impl Locked {
         memory: &mut [u8],
     ) -> Result<(AfterSending, usize), (Locked, Refusal)>
         ensures answer { result ≡ sending self (next_answer self.settings frames.now (waiting jobs.old) memory.old) }
-        ensures memory { memory.new ≡ memory_after (next_octets self.settings frames.now (waiting jobs.old)) memory.old (next_answer self.settings frames.now (waiting jobs.old) memory.old) }
+        ensures memory { let answer = next_answer self.settings frames.now (waiting jobs.old) memory.old in
+            memory.new ≡ memory_after (next_octets self.settings frames.now (waiting jobs.old)) memory.old answer }
         ensures accepted { OnOk result (slots_of jobs.new ≡ without_oldest (slots_of jobs.old)) }
         ensures refused { OnErr result (jobs.new ≡ jobs.old) }
-        ensures stretch { IfOk result (λ done. GoesOn self.settings (next_writings self.settings frames.now (waiting jobs.old)) (take done.1 memory.new)) }
-        ensures fits { IfOk result (λ _. FramesWithin self.settings.sender.limit.count (frames_in (next_writings self.settings frames.now (waiting jobs.old)))) }
+        ensures stretch { let writings = next_writings self.settings frames.now (waiting jobs.old) in
+            IfOk result (λ done. GoesOn self.settings writings (take done.1 memory.new)) }
+        ensures fits { let writings = next_writings self.settings frames.now (waiting jobs.old) in
+            IfOk result (λ _. FramesWithin self.settings.sender.limit.count (frames_in writings)) }
+        ensures call { let call = call_run_next (waiting jobs.old) frames.now memory.old in
+            let frames = frames_in (next_writings self.settings frames.now (waiting jobs.old)) in
+            MatchResult result
+            (λ done. IsStep (locked_session self) call (session_after done.0) (take done.1 memory.new) frames)
+            (λ back. IsStep (locked_session self) call (locked_session back.0) [] []) }
     {
         let Some(job) = jobs.front().copied() else {
             return Err((self, Refusal::QueueEmpty));
@@ -288,7 +323,8 @@ impl Locked {
         memory: &mut [u8],
     ) -> Result<(AfterSending, usize), (Locked, Refusal)>
         ensures answer { result ≡ sending self (job_answer self.settings frames.now job memory.old) }
-        ensures memory { memory.new ≡ memory_after (job_octets self.settings frames.now job) memory.old (job_answer self.settings frames.now job memory.old) }
+        ensures memory { let answer = job_answer self.settings frames.now job memory.old in
+            memory.new ≡ memory_after (job_octets self.settings frames.now job) memory.old answer }
     {
         let settings = self.settings;
         match settings.write_job(frames, job, memory) {
@@ -299,7 +335,8 @@ impl Locked {
 
     /// Breaks the modulation: the carrier bears no data any more, and a receiver's carrier is down.
     pub fn break_modulation(self) -> Carrier
-        ensures { result ≡ carrier_with self.settings }
+        ensures answer { result ≡ carrier_with self.settings }
+        ensures call { IsStep (locked_session self) call_break (carrier_session result) [] [] }
     {
         let Locked { settings } = self;
         Carrier { settings }
@@ -312,7 +349,13 @@ impl Sent {
     pub fn idle(&self, octets: usize, memory: &mut [u8]) -> Result<usize, Refusal>
         ensures answer { result ≡ idle_answer 1 2000 octets memory.old }
         ensures memory { memory.new ≡ memory_after (repeated self.now.settings.idle octets) memory.old result }
-        ensures stretch { IfOk result (λ count. GoesOn self.now.settings (idles octets ∷ []) (take count memory.new)) }
+        ensures stretch { IfOk result
+            (λ count. GoesOn self.now.settings (idles octets ∷ []) (take count memory.new)) }
+        ensures call { let here = sent_session self.now in
+            let call = call_idle octets memory.old in
+            MatchResult result
+            (λ count. IsStep here call here (take count memory.new) [])
+            (λ why. IsStep here call here [] []) }
     {
         self.settings
             .write_idle(octets, LEAST_IDLE, MOST_IDLE, memory)
@@ -320,7 +363,8 @@ impl Sent {
 
     /// Breaks the modulation: the carrier bears no data any more, and a receiver's carrier is down.
     pub fn break_modulation(self) -> Carrier
-        ensures { result ≡ carrier_with self.settings }
+        ensures answer { result ≡ carrier_with self.settings }
+        ensures call { IsStep (sent_session self) call_break (carrier_session result) [] [] }
     {
         let Sent { settings } = self;
         Carrier { settings }
