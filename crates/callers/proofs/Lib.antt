@@ -1,0 +1,9 @@
+-- What the proofs share. Assumes nothing.
+pub mod Idle
+pub mod Used
+pub mod Recovered
+pub mod Released
+pub mod Commanded
+pub mod Heard
+pub mod Sent
+pub mod Received
