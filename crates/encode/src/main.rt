@@ -3,7 +3,7 @@
 
 use cltu::{CodeblockLimit, Sender};
 use command_line::{Program, Task, arguments};
-use frame_lines::{Answer, answer_line};
+use encode_lines::{Answer, answer_line};
 use line_end::without_line_end;
 use randomizer::Randomizer;
 use std::io::{BufRead, BufReader, Read};

@@ -1,7 +1,7 @@
 //! `frames`: candidates in, the frames and the fill in them out, one line each.
 #![tactic(auto)]
 
-use candidate_lines::answer_line;
+use frames_lines::answer_line;
 use command_line::{Program, Task, arguments};
 use line_end::without_line_end;
 use std::io::{BufRead, BufReader, Read};

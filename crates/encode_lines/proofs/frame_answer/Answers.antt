@@ -2,9 +2,9 @@
 use Rattle.std.proofs.Common.{◌≡◌, ◌-◌, ◌*◌, ◌++◌, length, drop, Ok, ◌∙◌, refl, ap, ap₂, rules}
 use Rattle.hexadecimal.specs.Text.{capital_digits}
 use Rattle.cltu.specs.Writing.{sent_cltu, writing_answer}
-use Rattle.frame_lines.specs.Lines.{cltu_text}
-use Rattle.frame_lines.proofs.Memory.{memory, answers, written}
-use Rattle.frame_lines.proofs.frame_answer.Goals as goal
+use Rattle.encode_lines.specs.Lines.{cltu_text}
+use Rattle.encode_lines.proofs.Memory.{memory, answers, written}
+use Rattle.encode_lines.proofs.frame_answer.Goals as goal
 
 pub returns-in_ok-capitals-in-Ok : goal.returns-in_ok-capitals-in-Ok
 returns-in_ok-capitals-in-Ok c =

@@ -7,8 +7,8 @@ use Rattle.refusals.specs.Numbers.{refusal_number}
 use Rattle.cltu.specs.declared.Sender.{Sender}
 use Rattle.cltu.specs.Writing.{frame_refused, sent_cltu, cltu_octets, length_answer, writing_answer}
 use Rattle.cltu.proofs.Longest.{is_never_too_short}
-use Rattle.frame_lines.specs.declared.Answer.{Answer}
-use Rattle.frame_lines.specs.Lines.{frame_line, answer_text, is_cltu, sent, outcome, Answers, IsNeverTooShort}
+use Rattle.encode_lines.specs.declared.Answer.{Answer}
+use Rattle.encode_lines.specs.Lines.{frame_line, answer_text, is_cltu, sent, outcome, Answers, IsNeverTooShort}
 
 abbrev pub memory : List ℕ
 memory = replicate 1186 0

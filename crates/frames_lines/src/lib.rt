@@ -5,8 +5,8 @@ ghost use Rattle.std.specs.Prelude.{◌+◌, ◌<◌, ◌^◌, [], IfOk, OnOk};
 ghost use Rattle.hexadecimal.specs.Text.{octets_written};
 ghost use Rattle.cutting.specs.Cutting.{cutting};
 ghost use Rattle.cutting.specs.Items.{part_of};
-ghost use Rattle.candidate_lines.specs.Lines.{part_line, refusal_line, cutting_lines, counts_as, frames_in, answer_lines, answer_frames};
-ghost use Rattle.candidate_lines.specs.Answers.{Writes, Tells};
+ghost use Rattle.frames_lines.specs.Lines.{part_line, refusal_line, cutting_lines, counts_as, frames_in, answer_lines, answer_frames};
+ghost use Rattle.frames_lines.specs.Answers.{Writes, Tells};
 
 use cutting::{Cutter, Item};
 use hexadecimal::{capitals, read_octets};

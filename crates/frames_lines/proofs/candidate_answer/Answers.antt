@@ -2,8 +2,8 @@
 use Rattle.std.proofs.Common.{◌≡◌, Some, Ok, sym, subst, arith}
 use Rattle.cutting.specs.Cutting.{cutting}
 use Rattle.cutting.specs.Items.{part_of, to_cut, first_to_come}
-use Rattle.candidate_lines.proofs.Coming.{Written, few_frames, one_more}
-use Rattle.candidate_lines.proofs.candidate_answer.Goals as goal
+use Rattle.frames_lines.proofs.Coming.{Written, few_frames, one_more}
+use Rattle.frames_lines.proofs.candidate_answer.Goals as goal
 
 pub write_item-requires : goal.write_item-requires
 write_item-requires c = omega (arith, few_frames c.args.candidate.now, c.loop-item.invariant.frames)

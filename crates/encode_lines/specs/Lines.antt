@@ -7,8 +7,8 @@ use Rattle.refusals.specs.Numbers.{refusal_text}
 use Rattle.cltu.specs.declared.Sender.{Sender}
 use Rattle.cltu.specs.Cltu.{codeblocks_for, fill_for}
 use Rattle.cltu.specs.Writing.{sent_cltu, length_answer}
-use Rattle.frame_lines.specs.declared.Answer.{Answer}
-use Rattle.frame_lines.specs.declared.Answer.TheVariants.{Cltu, Refused, Unreadable}
+use Rattle.encode_lines.specs.declared.Answer.{Answer}
+use Rattle.encode_lines.specs.declared.Answer.TheVariants.{Cltu, Refused, Unreadable}
 use Rattle.hexadecimal.specs.Text.{capital_digits}
 
 -- `cltu`, the codeblocks, the fill octets, the octets and all of these in digits

@@ -1,6 +1,6 @@
 -- What an answer tells, and what is written to it. Assumes nothing.
 use Rattle.std.specs.Prelude.{◌≡◌, ℕ, ◌+◌, List, ◌++◌, string_bytes}
-use Rattle.candidate_lines.specs.declared.Answer.{Answer}
+use Rattle.frames_lines.specs.declared.Answer.{Answer}
 
 -- an answer has this text, and tells of so many frames
 pub record Tells (lines : List ℕ) (count : ℕ) (answer : Answer) : Type 0 where

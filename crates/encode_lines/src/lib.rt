@@ -3,7 +3,7 @@
 
 ghost use Rattle.std.specs.Prelude.{IfOk, Some};
 ghost use Rattle.hexadecimal.specs.Text.{octets_written};
-ghost use Rattle.frame_lines.specs.Lines.{Answers, IsNeverTooShort, answer_text};
+ghost use Rattle.encode_lines.specs.Lines.{Answers, IsNeverTooShort, answer_text};
 
 use bch::INFORMATION_OCTETS;
 use cltu::{LONGEST_CLTU, Sender, codeblocks_for};
