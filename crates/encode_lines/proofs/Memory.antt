@@ -7,8 +7,8 @@ use Rattle.refusals.specs.Numbers.{refusal_number}
 use Rattle.cltu.specs.declared.Sender.{Sender}
 use Rattle.cltu.specs.Writing.{frame_refused, sent_cltu, cltu_octets, length_answer, writing_answer}
 use Rattle.cltu.proofs.Longest.{is_never_too_short}
-use Rattle.encode_lines.specs.declared.Answer.{Answer}
-use Rattle.encode_lines.specs.Lines.{frame_line, answer_text, is_cltu, sent, outcome, Answers, IsNeverTooShort}
+use Rattle.encode_lines.specs.declared.FrameAnswer.{FrameAnswer}
+use Rattle.encode_lines.specs.Lines.{frame_line, answer_text, outcome, Answers, IsNeverTooShort}
 
 abbrev pub memory : List ℕ
 memory = replicate 1186 0
@@ -17,25 +17,19 @@ pub in_the_memory : (sender : Sender) (frame : List ℕ) → writing_answer send
 in_the_memory sender frame = is_never_too_short sender frame memory (omega (arith, length-replicate {A = ℕ}))
 
 -- an answer that is what writing the CLTU came to
-pub answers : (sender : Sender) (frame : List ℕ) (answer : Answer) (written : Result ℕ Refusal)
-    → writing_answer sender frame memory ≡ written → answer_text answer ≡ frame_line sender frame written → is_cltu answer ≡ sent written → outcome answer ≡ Some written
-    → Answers sender (Some frame) answer
-answers sender frame answer written is text kind came_to =
+pub answers : (sender : Sender) (frame : List ℕ) (answer : FrameAnswer) (written : Result ℕ Refusal)
+    → writing_answer sender frame memory ≡ written → answer_text answer ≡ frame_line sender frame written → outcome answer ≡ written → Answers sender frame answer
+answers sender frame answer written is text came_to =
     let same : written ≡ length_answer sender (length frame) = sym is ∙ in_the_memory sender frame in
     record {
       text = text ∙ ap (frame_line sender frame) same;
-      kind = kind ∙ ap sent same;
-      came_to = came_to ∙ ap (λ r. Some r) same;
+      came_to = came_to ∙ same;
     }
 
 -- the number of a refusal, and 0 where there is none
 abbrev number_of : Result ℕ Refusal → ℕ
 number_of (Ok octets) = 0
 number_of (Err refusal) = refusal_number refusal
-
-abbrev refused_with : Option (Result ℕ Refusal) → ℕ
-refused_with None = 0
-refused_with (Some came_to) = number_of came_to
 
 abbrev octets_of : Result ℕ Refusal → ℕ
 octets_of (Ok octets) = octets
@@ -56,7 +50,6 @@ not_2 : (refused : Bool) (octets : ℕ) → number_of (cond refused (Err FrameLe
 not_2 true octets e = omega (arith, e)
 not_2 false octets e = omega (arith, e)
 
-pub never_too_short : (sender : Sender) (frame : Option (List ℕ)) (answer : Answer) → Answers sender frame answer → IsNeverTooShort answer
-never_too_short sender None answer is e = let two : 0 ≡ 2 = ap refused_with (sym is.came_to ∙ e) in absurd (omega (arith, two))
-never_too_short sender (Some frame) answer is e =
-    not_2 (frame_refused sender.limit.count (length frame)) (cltu_octets (length frame)) (ap refused_with (sym is.came_to ∙ e))
+pub never_too_short : (sender : Sender) (frame : List ℕ) (answer : FrameAnswer) → Answers sender frame answer → IsNeverTooShort answer
+never_too_short sender frame answer is e =
+    not_2 (frame_refused sender.limit.count (length frame)) (cltu_octets (length frame)) (ap number_of (sym is.came_to ∙ e))

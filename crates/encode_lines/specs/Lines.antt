@@ -1,15 +1,15 @@
--- The answer to a line of text with a frame in it, and the line that tells it. Assumes nothing.
-use Rattle.std.specs.Prelude.{◌≡◌, ◌≢◌, ℕ, Bool, true, false, List, ◌++◌, length, Some, None, Ok, Err, string_bytes, codes, decimal, Option, Result}
-use Rattle.std.specs.Option.{option_map}
+-- The answer to a line with a frame in it. Assumes nothing.
+use Rattle.std.specs.Prelude.{◌≡◌, ◌≢◌, ℕ, suc, List, ◌++◌, length, Some, Ok, Err, string_bytes, codes, decimal, Result}
 use Rattle.refusals.specs.declared.Refusal.{Refusal}
 use Rattle.refusals.specs.declared.Refusal.TheVariants.{MemoryTooShort}
 use Rattle.refusals.specs.Numbers.{refusal_text}
 use Rattle.cltu.specs.declared.Sender.{Sender}
-use Rattle.cltu.specs.Cltu.{codeblocks_for, fill_for}
+use Rattle.cltu.specs.Cltu.{longest_frame, codeblocks_for, fill_for}
 use Rattle.cltu.specs.Writing.{sent_cltu, length_answer}
-use Rattle.encode_lines.specs.declared.Answer.{Answer}
-use Rattle.encode_lines.specs.declared.Answer.TheVariants.{Cltu, Refused, Unreadable}
 use Rattle.hexadecimal.specs.Text.{capital_digits}
+use Rattle.answered_lines.specs.Meaning.{Meaning}
+use Rattle.encode_lines.specs.declared.FrameAnswer.{FrameAnswer}
+use Rattle.encode_lines.specs.declared.FrameAnswer.TheVariants.{Cltu, Refused}
 
 -- `cltu`, the codeblocks, the fill octets, the octets and all of these in digits
 abbrev pub cltu_text : (codeblocks fill octets : ℕ) (digits : List ℕ) → List ℕ
@@ -22,43 +22,34 @@ frame_line sender frame (Ok octets) =
     cltu_text (codeblocks_for (length frame)) (fill_for (length frame)) octets (capital_digits (sent_cltu sender frame))
 frame_line sender frame (Err refusal) = refusal_text refusal
 
--- the answer to a line
-abbrev pub answer_line : Sender → Option (List ℕ) → List ℕ
-answer_line sender None = codes "unreadable"
-answer_line sender (Some frame) = frame_line sender frame (length_answer sender (length frame))
+-- one CLTU, or none
+abbrev pub cltus : Result ℕ Refusal → ℕ
+cltus (Ok octets) = 1
+cltus (Err refusal) = 0
 
--- whether a line is answered by a CLTU
-abbrev pub sent : Result ℕ Refusal → Bool
-sent (Ok octets) = true
-sent (Err refusal) = false
-
-abbrev pub answered_by_cltu : Sender → Option (List ℕ) → Bool
-answered_by_cltu sender None = false
-answered_by_cltu sender (Some frame) = sent (length_answer sender (length frame))
+-- a frame is answered by its line, with its end, and counts if it is sent; octets behind the first that is too many change nothing
+abbrev pub encode_meaning : Sender → Meaning
+encode_meaning sender = record {
+  text = λ frame. frame_line sender frame (length_answer sender (length frame)) ++ codes "\n";
+  count = λ frame. cltus (length_answer sender (length frame));
+  most = Some (suc longest_frame);
+}
 
 -- the line that an answer prints as
-abbrev pub answer_text : Answer → List ℕ
+abbrev pub answer_text : FrameAnswer → List ℕ
 answer_text (Cltu codeblocks fill octets digits) = cltu_text codeblocks fill octets (string_bytes digits)
 answer_text (Refused refusal) = refusal_text refusal
-answer_text Unreadable = codes "unreadable"
 
-abbrev pub is_cltu : Answer → Bool
-is_cltu (Cltu codeblocks fill octets digits) = true
-is_cltu (Refused refusal) = false
-is_cltu Unreadable = false
-
--- what writing the CLTU came to, where a frame was read
-abbrev pub outcome : Answer → Option (Result ℕ Refusal)
-outcome (Cltu codeblocks fill octets digits) = Some (Ok octets)
-outcome (Refused refusal) = Some (Err refusal)
-outcome Unreadable = None
+-- what writing the CLTU came to
+abbrev pub outcome : FrameAnswer → Result ℕ Refusal
+outcome (Cltu codeblocks fill octets digits) = Ok octets
+outcome (Refused refusal) = Err refusal
 
 -- an answer prints as the line for this frame, and is the case that says what writing it came to
-pub record Answers (sender : Sender) (frame : Option (List ℕ)) (answer : Answer) : Type 0 where
-  pub text : answer_text answer ≡ answer_line sender frame
-  pub kind : is_cltu answer ≡ answered_by_cltu sender frame
-  pub came_to : outcome answer ≡ option_map (λ f. length_answer sender (length f)) frame
+pub record Answers (sender : Sender) (frame : List ℕ) (answer : FrameAnswer) : Type 0 where
+  pub text : answer_text answer ≡ frame_line sender frame (length_answer sender (length frame))
+  pub came_to : outcome answer ≡ length_answer sender (length frame)
 
 -- it is never refusal 2: the memory in which a CLTU is written is never too short
-abbrev pub IsNeverTooShort : Answer → Type 0
-IsNeverTooShort answer = outcome answer ≢ Some (Err MemoryTooShort)
+abbrev pub IsNeverTooShort : FrameAnswer → Type 0
+IsNeverTooShort answer = outcome answer ≢ Err MemoryTooShort

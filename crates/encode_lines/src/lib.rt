@@ -1,20 +1,21 @@
-//! Frames as lines of hexadecimal text, and the line that answers each.
+//! What the program `encode` answers a frame with, as a line.
 #![tactic(auto)]
 
-ghost use Rattle.std.specs.Prelude.{IfOk, Some};
-ghost use Rattle.hexadecimal.specs.Text.{octets_written};
-ghost use Rattle.encode_lines.specs.Lines.{Answers, IsNeverTooShort, answer_text};
+ghost use Rattle.std.specs.Prelude.{◌≡◌, IfOk, Some};
+ghost use Rattle.encode_lines.specs.Lines.{Answers, IsNeverTooShort, answer_text, encode_meaning, outcome, cltus};
+ghost use Rattle.encode_lines.specs.TooLong.{further_octets};
 
+use answered_lines::{Answer, Answering};
 use bch::INFORMATION_OCTETS;
-use cltu::{LONGEST_CLTU, Sender, codeblocks_for};
-use hexadecimal::{capitals, read_octets};
+use cltu::{LONGEST_CLTU, LONGEST_FRAME, Sender, codeblocks_for};
+use hexadecimal::capitals;
 use refusals::Refusal;
 use std::alloc::{AllocError, Global};
 use std::fmt;
 
-/// The answer to a line. It prints as a line, without its end.
+/// The answer to a frame. It prints as a line, without its end.
 #[derive(Debug, Drop)]
-pub enum Answer {
+pub enum FrameAnswer {
     /// The CLTU of the frame.
     Cltu {
         /// How many codeblocks it has.
@@ -28,59 +29,83 @@ pub enum Answer {
     },
     /// The sender refuses the frame.
     Refused(Refusal),
-    /// The line is not whole octets of hexadecimal digits.
-    Unreadable,
 }
 
-impl fmt::Display for Answer {
+impl fmt::Display for FrameAnswer {
     ghost output = { λ answer. Some (answer_text answer) };
 
     fn fmt<W: fmt::Write>(&self, f: &mut fmt::Formatter<W>) -> fmt::Result {
         match self {
-            Answer::Cltu {
+            FrameAnswer::Cltu {
                 codeblocks,
                 fill,
                 octets,
                 digits,
             } => write!(f, "cltu {codeblocks} {fill} {octets} {digits}"),
-            Answer::Refused(refusal) => write!(f, "{refusal}"),
-            Answer::Unreadable => f.write_str("unreadable"),
+            FrameAnswer::Refused(refusal) => write!(f, "{refusal}"),
         }
     }
 }
 
+impl FrameAnswer {
+    // How many CLTUs it tells.
+    fn cltus(&self) -> usize
+        ensures { result ≡ cltus (outcome self.now) }
+    {
+        match self {
+            FrameAnswer::Cltu { .. } => 1,
+            FrameAnswer::Refused(_) => 0,
+        }
+    }
+}
+
+/// The answer to a frame: the CLTU that the sender makes of it, or why the sender refuses it. The number is
+/// always 1: 2, memory too short, never comes.
 #[tactic(auto, using(crate::proofs::Memory::in_the_memory))]
-fn frame_answer(heap: Global, sender: Sender, frame: &[u8]) -> Result<Answer, AllocError>
-    ensures { IfOk result (λ a. Answers sender (Some frame.now) a) }
+pub fn frame_answer(heap: Global, sender: Sender, frame: &[u8]) -> Result<FrameAnswer, AllocError>
+    ensures answer { IfOk result (λ a. Answers sender frame.now a) }
+    ensures memory { IfOk result IsNeverTooShort }
 {
     let mut memory = [0u8; LONGEST_CLTU];
     match sender.write_cltu(frame, &mut memory) {
         Ok(octets) => {
             let codeblocks = codeblocks_for(frame.len());
-            Ok(Answer::Cltu {
+            Ok(FrameAnswer::Cltu {
                 codeblocks,
                 fill: INFORMATION_OCTETS * codeblocks - frame.len(),
                 octets,
                 digits: capitals(heap, &memory[..octets])?,
             })
         }
-        Err(refusal) => Ok(Answer::Refused(refusal)),
+        Err(refusal) => Ok(FrameAnswer::Refused(refusal)),
     }
 }
 
-/// The answer to a line of text, given without its end: `cltu` with the count of codeblocks, of fill
-/// octets and of octets, and the octets; `refused` and the number where the sender refuses the
-/// frame; `unreadable` where the line is not whole octets of hexadecimal digits. The number is always 1:
-/// 2, memory too short, never comes.
-#[tactic(auto, using(crate::proofs::Memory::never_too_short))]
-pub fn answer_line(heap: Global, sender: Sender, line: &[u8]) -> Result<Answer, AllocError>
-    ensures answer { IfOk result (λ a. Answers sender (octets_written line.now) a) }
-    ensures memory { IfOk result IsNeverTooShort }
-{
-    match read_octets(heap, line)? {
-        Some(frame) => frame_answer(heap, sender, frame.as_slice()),
-        None => Ok(Answer::Unreadable),
+/// What answers the lines of the program `encode`: each is a frame for this sender. A frame is answered by `cltu`
+/// with the count of codeblocks, of fill octets and of octets, and the octets, which counts as one; or by
+/// `refused` and the number, which counts as none.
+#[derive(Clone, Copy, Debug)]
+pub struct EncodeLines {
+    /// The sender of the frames.
+    pub sender: Sender,
+}
+
+impl Answering for EncodeLines {
+    ghost meaning = { λ lines. encode_meaning lines.sender };
+
+    fn most_octets(&self) -> Option<usize> {
+        Some(LONGEST_FRAME + 1)
     }
+
+    fn answer(&self, heap: Global, octets: &[u8]) -> Result<Answer, AllocError> {
+        let answer = frame_answer(heap, self.sender, octets)?;
+        Ok(Answer {
+            text: format!(in heap; "{answer}\n")?,
+            counted: answer.cltus(),
+        })
+    }
+
+    ghost further_octets_change_nothing = { λ lines. further_octets lines.sender };
 }
 
 #[cfg(test)]
@@ -93,30 +118,27 @@ mod tests {
     #[test]
     fn randomizer_and_limit(rt: HostRuntime) -> Result<(), Fail> {
         let heap = rt.alloc();
-        let random = Sender {
-            limit: CodeblockLimit::most(),
-            randomizer: Randomizer::On,
+        let random = EncodeLines {
+            sender: Sender {
+                limit: CodeblockLimit::most(),
+                randomizer: Randomizer::On,
+            },
         };
-        let answer = answer_line(heap, random, b"00")?;
-        assert!(rt; matches!(&answer, Answer::Cltu { .. }));
+        let answer = random.answer(heap, &[0])?;
         assert_eq!(rt;
-            answer.to_string(heap)?.as_str(),
-            "cltu 1 6 18 EB90FF6CCB0F3DBC5330C5C5C5C5C5C5C579"
+            answer.text.as_str(),
+            "cltu 1 6 18 EB90FF6CCB0F3DBC5330C5C5C5C5C5C5C579\n"
         );
-        let small = Sender {
-            limit: CodeblockLimit::try_from(1usize)?,
-            randomizer: Randomizer::Off,
+        assert_eq!(rt; answer.counted, 1);
+        let small = EncodeLines {
+            sender: Sender {
+                limit: CodeblockLimit::try_from(1usize)?,
+                randomizer: Randomizer::Off,
+            },
         };
-        assert_eq!(rt;
-            answer_line(heap, small, b"0102030405060708")?
-                .to_string(heap)?
-                .as_str(),
-            "refused 1"
-        );
-        assert_eq!(rt;
-            answer_line(heap, small, b"5 5")?.to_string(heap)?.as_str(),
-            "unreadable"
-        );
+        let answer = small.answer(heap, &[1, 2, 3, 4, 5, 6, 7, 8])?;
+        assert_eq!(rt; answer.text.as_str(), "refused 1\n");
+        assert_eq!(rt; answer.counted, 0);
         Ok(())
     }
 }

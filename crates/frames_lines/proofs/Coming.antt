@@ -2,14 +2,14 @@
 use Rattle.std.proofs.Common.{◌≡◌, ℕ, zero, suc, ◌+◌, ◌-◌, ◌≤◌, List, [], ◌∷◌, ◌++◌, length, Option, Some, None, Ok, string_bytes, sym, ap, ◌∙◌, append_assoc, arith}
 use Rattle.cutting.specs.Cutting.{Kind, frame, fill, Part, part_in_front, Cutting, cut_behind, cut_from, cutting}
 use Rattle.cutting.specs.Items.{first_of_parts, behind_first, first_to_come, rest_to_come}
-use Rattle.frames_lines.specs.declared.Answer.{Answer}
+use Rattle.answered_lines.specs.declared.answering.Answer.{Answer}
 use Rattle.frames_lines.specs.Lines.{part_line, lines_of, cutting_lines, counts_as, frames_in}
 use Rattle.frames_lines.specs.Answers.{Writes}
 
 -- what is written so far, with the lines of what is still to be cut, are the lines of the whole; and likewise the frames
 pub record Written (whole to_come : Cutting) (answer : Answer) : Type 0 where
   pub text : string_bytes answer.text ++ cutting_lines to_come ≡ cutting_lines whole
-  pub frames : answer.frames + frames_in to_come.parts ≡ frames_in whole.parts
+  pub frames : answer.counted + frames_in to_come.parts ≡ frames_in whole.parts
 
 counts_most : (k : Kind) → counts_as k ≤ 1
 counts_most frame = omega arith

@@ -1,9 +1,10 @@
 -- The lines for a part of a candidate, for a refusal, and for a whole cutting, each with its end. Assumes nothing.
-use Rattle.std.specs.Prelude.{ℕ, ◌+◌, List, [], ◌∷◌, ◌++◌, length, Option, Some, None, codes, decimal}
+use Rattle.std.specs.Prelude.{ℕ, ◌+◌, refl, List, [], ◌∷◌, ◌++◌, length, Option, Some, None, codes, decimal}
 use Rattle.refusals.specs.declared.Refusal.{Refusal}
 use Rattle.refusals.specs.declared.Refusal.TheVariants.{NeitherFrameNorFill}
 use Rattle.refusals.specs.Numbers.{refusal_text}
 use Rattle.hexadecimal.specs.Text.{capital_digits}
+use Rattle.answered_lines.specs.Meaning.{Meaning, FurtherOctetsChangeNothing}
 use Rattle.cutting.specs.Cutting.{Kind, frame, fill, Part, Cutting, cutting}
 
 -- a frame is told with its octets in capitals, fill without
@@ -40,11 +41,13 @@ abbrev pub frames_in : List Part → ℕ
 frames_in [] = 0
 frames_in (p ∷ parts) = counts_as p.kind + frames_in parts
 
--- the lines for a candidate, where one was read, and how many frames they tell of
-abbrev pub answer_lines : Option (List ℕ) → List ℕ
-answer_lines None = codes "unreadable\n"
-answer_lines (Some candidate) = cutting_lines (cutting candidate)
+-- a candidate is answered by the lines of its cutting, and counts the frames in them; notice is taken of all its octets
+abbrev pub frames_meaning : Meaning
+frames_meaning = record {
+  text = λ candidate. cutting_lines (cutting candidate);
+  count = λ candidate. frames_in (cutting candidate).parts;
+  most = None;
+}
 
-abbrev pub answer_frames : Option (List ℕ) → ℕ
-answer_frames None = 0
-answer_frames (Some candidate) = frames_in (cutting candidate).parts
+pub further_octets : FurtherOctetsChangeNothing frames_meaning
+further_octets = record { text = λ octets. refl; count = λ octets. refl }

@@ -1,103 +1,91 @@
-//! Candidates as lines of hexadecimal text, and the lines that tell what is cut out of each.
+//! What the program `frames` answers a candidate with, as lines.
 #![tactic(auto)]
 
 ghost use Rattle.std.specs.Prelude.{◌+◌, ◌<◌, ◌^◌, [], IfOk, OnOk};
-ghost use Rattle.hexadecimal.specs.Text.{octets_written};
+ghost use Rattle.answered_lines.specs.Answers.{Tells};
 ghost use Rattle.cutting.specs.Cutting.{cutting};
 ghost use Rattle.cutting.specs.Items.{part_of};
-ghost use Rattle.frames_lines.specs.Lines.{part_line, refusal_line, cutting_lines, counts_as, frames_in, answer_lines, answer_frames};
-ghost use Rattle.frames_lines.specs.Answers.{Writes, Tells};
+ghost use Rattle.frames_lines.specs.Lines.{part_line, refusal_line, cutting_lines, counts_as, frames_in, frames_meaning, further_octets};
+ghost use Rattle.frames_lines.specs.Answers.{Writes};
 
+use answered_lines::{Answer, Answering};
 use cutting::{Cutter, Item};
-use hexadecimal::{capitals, read_octets};
+use hexadecimal::capitals;
 use refusals::Refusal;
 use std::alloc::{AllocError, Global};
 
-/// The answer to a line.
-#[derive(Debug, Drop)]
-pub struct Answer {
-    /// The lines that it is printed as, each with its end.
-    pub text: String,
-    /// How many frames they tell of.
-    pub frames: usize,
-}
+/// What answers the lines of the program `frames`: each is a candidate. For each item of it there is a line:
+/// `frame` with its place, how many octets it has and these in capital hexadecimal digits, or `fill` with its
+/// place and how many octets it has. Where cutting is refused, `refused 9` and the place come behind the items
+/// before it. The frames are counted.
+#[derive(Clone, Copy, Debug)]
+pub struct FramesLines;
 
-impl Answer {
-    fn new(heap: Global) -> Self
-        ensures { Tells [] 0 result }
-    {
-        Answer {
-            text: String::new(heap),
-            frames: 0,
-        }
+impl Answering for FramesLines {
+    ghost meaning = { λ _. frames_meaning };
+
+    fn most_octets(&self) -> Option<usize> {
+        None
     }
 
-    // Writes the line of an item.
-    fn write_item(&mut self, heap: Global, item: Item<'_>) -> Result<(), AllocError>
-        requires { self.old.frames + 1 < 2 ^ 64 }
-        ensures { OnOk result (Writes (part_line (part_of item.entry)) (counts_as (part_of item.entry).kind) self.old self.new) }
-    {
-        match item {
-            Item::Frame { place, octets } => {
-                let count = octets.len();
-                let digits = capitals(heap, octets)?;
-                writeln!(self.text, "frame {place} {count} {digits}")?;
-                self.frames += 1;
-            }
-            Item::Fill { place, octets } => {
-                let count = octets.len();
-                writeln!(self.text, "fill {place} {count}")?;
-            }
-        }
-        Ok(())
+    fn answer(&self, heap: Global, octets: &[u8]) -> Result<Answer, AllocError> {
+        candidate_answer(heap, octets)
     }
 
-    // Writes the line of a refusal, with the place where it arose.
-    fn write_refusal(&mut self, refusal: Refusal) -> Result<(), AllocError>
-        ensures { OnOk result (Writes (refusal_line refusal) 0 self.old self.new) }
-    {
-        if let Refusal::NeitherFrameNorFill(place) = refusal {
-            writeln!(self.text, "{refusal} {place}")?;
-        } else {
-            writeln!(self.text, "{refusal}")?;
-        }
-        Ok(())
-    }
+    ghost further_octets_change_nothing = { λ _. further_octets };
 }
 
 // The answer to a candidate.
 fn candidate_answer(heap: Global, candidate: &[u8]) -> Result<Answer, AllocError>
     ensures { IfOk result (Tells (cutting_lines (cutting candidate.now)) (frames_in (cutting candidate.now).parts)) }
 {
-    let mut answer = Answer::new(heap);
+    let mut answer = Answer {
+        text: String::new(heap),
+        counted: 0,
+    };
     let mut cutter = Cutter::new(candidate);
     loop {
         match cutter.next_item() {
-            Ok(Some(item)) => answer.write_item(heap, item)?,
+            Ok(Some(item)) => write_item(heap, item, &mut answer)?,
             Ok(None) => return Ok(answer),
             Err(refusal) => {
-                answer.write_refusal(refusal)?;
+                write_refusal(refusal, &mut answer)?;
                 return Ok(answer);
             }
         }
     }
 }
 
-/// The answer to a line of text with a candidate in it, given without its end. For each item it has a line:
-/// `frame` with its place, how many octets it has and these in capital hexadecimal digits, or `fill` with
-/// its place and how many octets it has. Where cutting is refused, `refused 9` and the place come behind
-/// the items before it. A line that is not whole octets of hexadecimal digits is answered by `unreadable`.
-pub fn answer_line(heap: Global, line: &[u8]) -> Result<Answer, AllocError>
-    ensures { IfOk result (Tells (answer_lines (octets_written line.now)) (answer_frames (octets_written line.now))) }
+// Writes the line of an item.
+fn write_item(heap: Global, item: Item<'_>, answer: &mut Answer) -> Result<(), AllocError>
+    requires { answer.old.counted + 1 < 2 ^ 64 }
+    ensures { OnOk result (Writes (part_line (part_of item.entry)) (counts_as (part_of item.entry).kind) answer.old answer.new) }
 {
-    match read_octets(heap, line)? {
-        Some(candidate) => candidate_answer(heap, candidate.as_slice()),
-        None => {
-            let mut answer = Answer::new(heap);
-            answer.text.push_str("unreadable\n")?;
-            Ok(answer)
+    match item {
+        Item::Frame { place, octets } => {
+            let count = octets.len();
+            let digits = capitals(heap, octets)?;
+            writeln!(answer.text, "frame {place} {count} {digits}")?;
+            answer.counted += 1;
+        }
+        Item::Fill { place, octets } => {
+            let count = octets.len();
+            writeln!(answer.text, "fill {place} {count}")?;
         }
     }
+    Ok(())
+}
+
+// Writes the line of a refusal, with the place where it arose.
+fn write_refusal(refusal: Refusal, answer: &mut Answer) -> Result<(), AllocError>
+    ensures { OnOk result (Writes (refusal_line refusal) 0 answer.old answer.new) }
+{
+    if let Refusal::NeitherFrameNorFill(place) = refusal {
+        writeln!(answer.text, "{refusal} {place}")?;
+    } else {
+        writeln!(answer.text, "{refusal}")?;
+    }
+    Ok(())
 }
 
 #[cfg(test)]
@@ -107,25 +95,29 @@ mod tests {
 
     #[test]
     fn items_and_refusals(rt: HostRuntime) -> Result<(), Fail> {
-        let answer = answer_line(rt.alloc(), b"00010004ab000100040055")?;
+        let answer = FramesLines.answer(
+            rt.alloc(),
+            &[0, 1, 0, 4, 0xAB, 0, 1, 0, 4, 0, 0x55],
+        )?;
         assert_eq!(rt;
             answer.text.as_str(),
             "frame 0 5 00010004AB\nframe 5 5 0001000400\nfill 10 1\n"
         );
-        assert!(rt; answer.frames == 2);
-        let answer = answer_line(rt.alloc(), b"000100040000010007000000")?;
+        assert_eq!(rt; answer.counted, 2);
+        let answer = FramesLines.answer(
+            rt.alloc(),
+            &[0, 1, 0, 4, 0, 0, 1, 0, 7, 0, 0, 0],
+        )?;
         assert_eq!(rt; answer.text.as_str(), "frame 0 5 0001000400\nrefused 9 5\n");
-        assert!(rt; answer.frames == 1);
+        assert_eq!(rt; answer.counted, 1);
         Ok(())
     }
 
     #[test]
     fn no_item(rt: HostRuntime) -> Result<(), Fail> {
-        for (line, text) in [(b"".as_slice(), ""), (b"5 5", "unreadable\n")] {
-            let answer = answer_line(rt.alloc(), line)?;
-            assert_eq!(rt; answer.text.as_str(), text);
-            assert!(rt; answer.frames == 0);
-        }
+        let answer = FramesLines.answer(rt.alloc(), &[])?;
+        assert_eq!(rt; answer.text.as_str(), "");
+        assert_eq!(rt; answer.counted, 0);
         Ok(())
     }
 }

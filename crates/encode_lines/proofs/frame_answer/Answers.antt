@@ -6,8 +6,8 @@ use Rattle.encode_lines.specs.Lines.{cltu_text}
 use Rattle.encode_lines.proofs.Memory.{memory, answers, written}
 use Rattle.encode_lines.proofs.frame_answer.Goals as goal
 
-pub returns-in_ok-capitals-in-Ok : goal.returns-in_ok-capitals-in-Ok
-returns-in_ok-capitals-in-Ok c =
+pub returns-in_ok-capitals-in-Ok-clause-answer : goal.returns-in_ok-capitals-in-Ok-clause-answer
+returns-in_ok-capitals-in-Ok-clause-answer c =
     let sender = c.args.sender in
     let frame = c.args.frame.now in
     let octets = c.in-Ok.octets in
@@ -16,4 +16,4 @@ returns-in_ok-capitals-in-Ok c =
     let digits = c.in_ok-capitals-in-Ok.ensures.digits ∙ ap capital_digits (written sender frame c.write_cltu.new.memory octets is after) in
     answers sender frame _ (Ok octets) is
     (ap₂ (λ n d. cltu_text n (7 * n - length frame) octets d) c.codeblocks_for-codeblocks.ensures.value digits)
-    refl refl
+    refl
