@@ -1,12 +1,12 @@
 //! `encode`: frames in, CLTUs out, one line each.
 #![tactic(auto)]
 
+use answered_lines::print_answers;
 use cltu::{CodeblockLimit, Sender};
 use command_line::{Program, Task, arguments};
-use frame_lines::{Answer, answer_line};
-use line_end::without_line_end;
+use encode_lines::EncodeLines;
 use randomizer::Randomizer;
-use std::io::{BufRead, BufReader, Read};
+use std::io;
 use std::process::ExitCode;
 
 const HELP: &str = "\
@@ -45,42 +45,20 @@ fn asked_task(argument: &str) -> Option<Task<Randomizer>> {
     }
 }
 
-fn encode(
-    rt: &(impl Print + AllocGlobal),
-    input: impl Read + Drop,
-    randomizer: Randomizer,
-) -> anyhow::Result<()> {
-    let sender = Sender {
-        limit: CodeblockLimit::most(),
-        randomizer,
-    };
-    let heap = rt.alloc();
-    let mut input = BufReader::new(heap, input)?;
-    let mut line = Vec::new(heap);
-    let mut lines: u64 = 0;
-    let mut cltus: u64 = 0;
-    for _ in 0..u64::MAX {
-        line.clear();
-        if input.read_until(b'\n', &mut line)? == 0 {
-            break;
-        }
-        let answer = answer_line(heap, sender, without_line_end(line.as_slice()))?;
-        println!(rt; "{answer}")?;
-        lines = lines.saturating_add(1);
-        if matches!(answer, Answer::Cltu { .. }) {
-            cltus = cltus.saturating_add(1);
-        }
-    }
-    println!(rt; "end {lines} {cltus}")?;
-    Ok(())
-}
-
 fn main(rt: HostRuntime) -> anyhow::Result<ExitCode> {
     PROGRAM.run(
         &rt,
         arguments(&rt),
         Task::Work(Randomizer::Off),
         asked_task,
-        |randomizer| { encode(&rt, rt.stdin(), randomizer) },
+        |randomizer| {
+            let lines = EncodeLines {
+                sender: Sender {
+                    limit: CodeblockLimit::most(),
+                    randomizer,
+                },
+            };
+            print_answers(rt.alloc(), lines, &mut rt.stdin(), &mut io::writer(&rt))
+        },
     )
 }

@@ -1,10 +1,10 @@
 //! `frames`: candidates in, the frames and the fill in them out, one line each.
 #![tactic(auto)]
 
-use candidate_lines::answer_line;
+use answered_lines::print_answers;
 use command_line::{Program, Task, arguments};
-use line_end::without_line_end;
-use std::io::{BufRead, BufReader, Read};
+use frames_lines::FramesLines;
+use std::io;
 use std::process::ExitCode;
 
 const HELP: &str = "\
@@ -40,32 +40,12 @@ fn asked_task(argument: &str) -> Option<Task<()>> {
     (argument == "--help").then_some(Task::Help)
 }
 
-fn frames(rt: &(impl Print + AllocGlobal), input: impl Read + Drop) -> anyhow::Result<()> {
-    let heap = rt.alloc();
-    let mut input = BufReader::new(heap, input)?;
-    let mut line = Vec::new(heap);
-    let mut lines: u64 = 0;
-    let mut frames: u64 = 0;
-    for _ in 0..u64::MAX {
-        line.clear();
-        if input.read_until(b'\n', &mut line)? == 0 {
-            break;
-        }
-        let answer = answer_line(heap, without_line_end(line.as_slice()))?;
-        rt.print(answer.text.as_str())?;
-        lines = lines.saturating_add(1);
-        frames = frames.saturating_add(answer.frames as u64);
-    }
-    println!(rt; "end {lines} {frames}")?;
-    Ok(())
-}
-
 fn main(rt: HostRuntime) -> anyhow::Result<ExitCode> {
     PROGRAM.run(
         &rt,
         arguments(&rt),
         Task::Work(()),
         asked_task,
-        |()| frames(&rt, rt.stdin()),
+        |()| print_answers(rt.alloc(), FramesLines, &mut rt.stdin(), &mut io::writer(&rt)),
     )
 }

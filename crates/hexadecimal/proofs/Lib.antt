@@ -1,2 +1,3 @@
--- The law that `capitals` proves. Assumes nothing.
+-- Proofs about octets as text. Assumes nothing.
 mod ReadBack
+pub mod DigitByDigit

@@ -7,6 +7,10 @@ ghost use Rattle.hexadecimal.specs.Text.{digit_value, octet_of, octets_written, 
 
 use std::alloc::{AllocError, Global};
 
+mod digit_reader;
+
+pub use digit_reader::DigitReader;
+
 /// The octets that a text writes, two hexadecimal digits an octet, the high digit first, in either
 /// case. An empty text writes no octets. `None` where the text is not whole octets: where its
 /// length is odd, or any byte in it is not a hexadecimal digit, a space among them.

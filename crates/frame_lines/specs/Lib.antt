@@ -1,2 +1,0 @@
--- The lines that answer frames. Assumes nothing.
-pub mod Lines

@@ -1,0 +1,123 @@
+//! What the program `frames` answers a candidate with, as lines.
+#![tactic(auto)]
+
+ghost use Rattle.std.specs.Prelude.{◌+◌, ◌<◌, ◌^◌, [], IfOk, OnOk};
+ghost use Rattle.answered_lines.specs.Answers.{Tells};
+ghost use Rattle.cutting.specs.Cutting.{cutting};
+ghost use Rattle.cutting.specs.Items.{part_of};
+ghost use Rattle.frames_lines.specs.Lines.{part_line, refusal_line, cutting_lines, counts_as, frames_in, frames_meaning, further_octets};
+ghost use Rattle.frames_lines.specs.Answers.{Writes};
+
+use answered_lines::{Answer, Answering};
+use cutting::{Cutter, Item};
+use hexadecimal::capitals;
+use refusals::Refusal;
+use std::alloc::{AllocError, Global};
+
+/// What answers the lines of the program `frames`: each is a candidate. For each item of it there is a line:
+/// `frame` with its place, how many octets it has and these in capital hexadecimal digits, or `fill` with its
+/// place and how many octets it has. Where cutting is refused, `refused 9` and the place come behind the items
+/// before it. The frames are counted.
+#[derive(Clone, Copy, Debug)]
+pub struct FramesLines;
+
+impl Answering for FramesLines {
+    ghost meaning = { λ _. frames_meaning };
+
+    fn most_octets(&self) -> Option<usize> {
+        None
+    }
+
+    fn answer(&self, heap: Global, octets: &[u8]) -> Result<Answer, AllocError> {
+        candidate_answer(heap, octets)
+    }
+
+    ghost further_octets_change_nothing = { λ _. further_octets };
+}
+
+// The answer to a candidate.
+fn candidate_answer(heap: Global, candidate: &[u8]) -> Result<Answer, AllocError>
+    ensures { IfOk result (Tells (cutting_lines (cutting candidate.now)) (frames_in (cutting candidate.now).parts)) }
+{
+    let mut answer = Answer {
+        text: String::new(heap),
+        counted: 0,
+    };
+    let mut cutter = Cutter::new(candidate);
+    loop {
+        match cutter.next_item() {
+            Ok(Some(item)) => write_item(heap, item, &mut answer)?,
+            Ok(None) => return Ok(answer),
+            Err(refusal) => {
+                write_refusal(refusal, &mut answer)?;
+                return Ok(answer);
+            }
+        }
+    }
+}
+
+// Writes the line of an item.
+fn write_item(heap: Global, item: Item<'_>, answer: &mut Answer) -> Result<(), AllocError>
+    requires { answer.old.counted + 1 < 2 ^ 64 }
+    ensures { OnOk result (Writes (part_line (part_of item.entry)) (counts_as (part_of item.entry).kind) answer.old answer.new) }
+{
+    match item {
+        Item::Frame { place, octets } => {
+            let count = octets.len();
+            let digits = capitals(heap, octets)?;
+            writeln!(answer.text, "frame {place} {count} {digits}")?;
+            answer.counted += 1;
+        }
+        Item::Fill { place, octets } => {
+            let count = octets.len();
+            writeln!(answer.text, "fill {place} {count}")?;
+        }
+    }
+    Ok(())
+}
+
+// Writes the line of a refusal, with the place where it arose.
+fn write_refusal(refusal: Refusal, answer: &mut Answer) -> Result<(), AllocError>
+    ensures { OnOk result (Writes (refusal_line refusal) 0 answer.old answer.new) }
+{
+    if let Refusal::NeitherFrameNorFill(place) = refusal {
+        writeln!(answer.text, "{refusal} {place}")?;
+    } else {
+        writeln!(answer.text, "{refusal}")?;
+    }
+    Ok(())
+}
+
+#[cfg(test)]
+mod tests {
+    use super::*;
+    use std::test::Fail;
+
+    #[test]
+    fn items_and_refusals(rt: HostRuntime) -> Result<(), Fail> {
+        let answer = FramesLines.answer(
+            rt.alloc(),
+            &[0, 1, 0, 4, 0xAB, 0, 1, 0, 4, 0, 0x55],
+        )?;
+        assert_eq!(rt;
+            answer.text.as_str(),
+            "frame 0 5 00010004AB\nframe 5 5 0001000400\nfill 10 1\n"
+        );
+        assert_eq!(rt; answer.counted, 2);
+        let answer = FramesLines.answer(
+            rt.alloc(),
+            &[0, 1, 0, 4, 0, 0, 1, 0, 7, 0, 0, 0],
+        )?;
+        assert_eq!(rt; answer.text.as_str(), "frame 0 5 0001000400\nrefused 9 5\n");
+        assert_eq!(rt; answer.counted, 1);
+        Ok(())
+    }
+
+    #[test]
+    fn no_item(rt: HostRuntime) -> Result<(), Fail> {
+        let answer = FramesLines.answer(rt.alloc(), &[])?;
+        assert_eq!(rt; answer.text.as_str(), "");
+        assert_eq!(rt; answer.counted, 0);
+        Ok(())
+    }
+}

@@ -1,0 +1,67 @@
+-- What a text writes whose digits come one by one. Assumes nothing.
+use Rattle.std.proofs.Common.{◌≡◌, ℕ, List, [], ◌∷◌, ◌++◌, Option, Some, None, IsSome, refl, sym, ap, ◌∙◌, append_assoc, append-nil}
+use Rattle.std.specs.Option.{option_map}
+use Rattle.hexadecimal.specs.Text.{digit_value, octet_of, before, octets_written}
+use Rattle.hexadecimal.specs.Kept.{kept}
+use Rattle.hexadecimal.specs.Reading.{Writes, Reads}
+use Rattle.hexadecimal.specs.declared.digit_reader.Progress.TheVariants.{Half, Unreadable}
+
+map_nothing : (o : Option (List ℕ)) → o ≡ option_map (λ xs. [] ++ xs) o
+map_nothing None = refl
+map_nothing (Some xs) = refl
+
+map_front : (x : ℕ) (front : List ℕ) (o : Option (List ℕ)) → option_map (λ xs. x ∷ xs) (option_map (λ xs. front ++ xs) o) ≡ option_map (λ xs. (x ∷ front) ++ xs) o
+map_front x front None = refl
+map_front x front (Some xs) = refl
+
+in_front : (o : Option ℕ) (w joined behind : Option (List ℕ)) (all : List ℕ) → before o w ≡ Some all
+    → ((front : List ℕ) → w ≡ Some front → joined ≡ option_map (λ xs. front ++ xs) behind) → before o joined ≡ option_map (λ xs. all ++ xs) behind
+in_front None w joined behind all e go = cc
+in_front (Some x) None joined behind all e go = cc
+in_front (Some x) (Some front) joined behind all e go =
+    let same : x ∷ front ≡ all = cc in
+    ap (option_map (λ xs. x ∷ xs)) (go front refl) ∙ map_front x front behind ∙ ap (λ a. option_map (λ xs. a ++ xs) behind) same
+
+-- behind whole octets a text goes on as it would alone
+pub behind_whole : (text further all : List ℕ) → octets_written text ≡ Some all → octets_written (text ++ further) ≡ option_map (λ xs. all ++ xs) (octets_written further)
+behind_whole [] further all e = let none : [] ≡ all = cc in map_nothing (octets_written further) ∙ ap (λ a. option_map (λ xs. a ++ xs) (octets_written further)) none
+behind_whole (high ∷ []) further all e = cc
+behind_whole (high ∷ low ∷ text) further all e =
+    in_front (octet_of (digit_value high) (digit_value low)) (octets_written text) (octets_written (text ++ further)) (octets_written further) all e
+    (λ front is. behind_whole text further front is)
+
+no_digit : (byte : ℕ) (further : List ℕ) → digit_value byte ≡ None → octets_written (byte ∷ further) ≡ None
+no_digit byte [] none = refl
+no_digit byte (low ∷ further) none = ap (λ o. before (octet_of o (digit_value low)) (octets_written further)) none
+
+-- nor is a text that nothing mends
+pub unreadable_is_none : (text : List ℕ) → ((further : List ℕ) → octets_written (text ++ further) ≡ None) → octets_written text ≡ None
+unreadable_is_none text none = ap octets_written (sym (append-nil text)) ∙ none []
+
+module _ (most : Option ℕ) (octets text : List ℕ) (byte : ℕ) where
+  -- whole octets, and a byte that is no digit
+  pub bad_behind_whole : Writes most octets text → digit_value byte ≡ None → Reads Unreadable most octets (text ++ byte ∷ [])
+  bad_behind_whole (all, written, is) none further =
+      ap octets_written (append_assoc text (byte ∷ []) further) ∙ behind_whole text (byte ∷ further) all written ∙ ap (option_map (λ xs. all ++ xs)) (no_digit byte further none)
+
+  -- a half octet is none
+  pub half_is_none : Reads (Half byte) most octets text → octets_written text ≡ None
+  half_is_none (front, is, some, (all, written, keeps)) = ap octets_written is ∙ behind_whole front (byte ∷ []) all written
+
+  -- a half octet, and a byte with which it makes none
+  pub bad_behind_half : (low : ℕ) → Reads (Half byte) most octets text → octet_of (digit_value byte) (digit_value low) ≡ None → Reads Unreadable most octets (text ++ low ∷ [])
+  bad_behind_half low (front, is, some, (all, written, keeps)) none further =
+      ap (λ t. octets_written ((t ++ low ∷ []) ++ further)) is
+      ∙ ap octets_written (append_assoc (front ++ byte ∷ []) (low ∷ []) further ∙ append_assoc front (byte ∷ []) (low ∷ further))
+      ∙ behind_whole front (byte ∷ low ∷ further) all written
+      ∙ ap (λ o. option_map (λ xs. all ++ xs) (before o (octets_written further))) none
+
+  -- a half octet, and the digit that makes it whole
+  pub good_behind_half : (low octet : ℕ) (after : List ℕ) → Reads (Half byte) most octets text → octet_of (digit_value byte) (digit_value low) ≡ Some octet
+      → ((all : List ℕ) → octets ≡ kept most all → after ≡ kept most (all ++ octet ∷ [])) → Writes most after (text ++ low ∷ [])
+  good_behind_half low octet after (front, is, some, (all, written, keeps)) octet_is more = (
+    all ++ octet ∷ [],
+    ap (λ t. octets_written (t ++ low ∷ [])) is ∙ ap octets_written (append_assoc front (byte ∷ []) (low ∷ []))
+        ∙ behind_whole front (byte ∷ low ∷ []) all written ∙ ap (λ o. option_map (λ xs. all ++ xs) (before o (Some []))) octet_is,
+    more all keeps,
+  )

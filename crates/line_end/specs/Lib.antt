@@ -1,2 +1,0 @@
--- The text of a line. Assumes nothing.
-pub mod Text
