@@ -143,6 +143,22 @@ const REFUSED_IDLE: [(usize, usize, Refusal); 8] = [
     (usize::MAX, LONGEST_CALL, Refusal::MemoryTooShort),
 ];
 
+/// A session in a state in which it may write idle.
+#[derive(Drop)]
+enum Modulated<'a> {
+    Locked(&'a Locked),
+    Sent(&'a Sent),
+}
+
+impl Modulated<'_> {
+    fn idle(&self, octets: usize, memory: &mut [u8]) -> Result<usize, Refusal> {
+        match self {
+            Modulated::Locked(locked) => locked.idle(octets, memory),
+            Modulated::Sent(sent) => sent.idle(octets, memory),
+        }
+    }
+}
+
 /// A job that has to be refused, in memory of so many octets.
 #[derive(Clone, Copy)]
 struct RefusedJob {
@@ -421,24 +437,12 @@ impl<H: Hold + Drop> Link<H> {
         Ok(carrier)
     }
 
-    /// Idle that a session has to refuse, with its carrier locked.
-    fn refuse_idle(&mut self, locked: &Locked, memory: &mut [u8]) -> Result<()> {
+    /// Idle that has to be refused.
+    fn refuse_idle(&mut self, session: &Modulated<'_>, memory: &mut [u8]) -> Result<()> {
         for (octets, lent, expected) in REFUSED_IDLE {
             let lent = memory.get_mut(..lent).context("not so much memory")?;
-            let Err(refusal) = locked.idle(octets, lent) else {
+            let Err(refusal) = session.idle(octets, lent) else {
                 bail!("idle of {octets} octets");
-            };
-            self.compare_refused(refusal, expected, memory);
-        }
-        Ok(())
-    }
-
-    /// The same in PLOP-1, behind its frame.
-    fn refuse_idle_behind(&mut self, sent: &Sent, memory: &mut [u8]) -> Result<()> {
-        for (octets, lent, expected) in REFUSED_IDLE {
-            let lent = memory.get_mut(..lent).context("not so much memory")?;
-            let Err(refusal) = sent.idle(octets, lent) else {
-                bail!("idle of {octets} octets behind the frame");
             };
             self.compare_refused(refusal, expected, memory);
         }
@@ -513,7 +517,7 @@ impl<H: Hold + Drop> Link<H> {
 
     /// All that has to be refused with the carrier locked.
     fn refuse_all(&mut self, locked: Locked, frames: &[u8], memory: &mut [u8]) -> Result<Locked> {
-        self.refuse_idle(&locked, memory)?;
+        self.refuse_idle(&Modulated::Locked(&locked), memory)?;
         let mut locked = self.refuse_no_job(locked, frames, memory)?;
         for case in refused_spans(self.setup, frames.len()) {
             locked = self.refuse_frame(locked, frames, case, memory)?;
@@ -593,7 +597,7 @@ impl<H: Hold + Drop> Link<H> {
 
     /// PLOP-1: idle, and the break.
     fn after_the_only(&mut self, sent: Sent, memory: &mut [u8]) -> Result<Carrier> {
-        self.refuse_idle_behind(&sent, memory)?;
+        self.refuse_idle(&Modulated::Sent(&sent), memory)?;
         let idle = self.numbers.below(60).saturating_add(1);
         let octets = sent.idle(idle, memory)?;
         self.carry_idle(memory, octets, idle)?;

@@ -75,7 +75,11 @@ fn passes(vector: &[u8; CODEBLOCK_OCTETS]) -> bool
 /// Which vector fails first, counted from 0, or `None` where none does. A vector passes if it is the codeblock of its
 /// first seven octets. The test writes that codeblock, and compares; and it judges the vector in both modes, which
 /// accept it then, with its own information.
+///
+/// The vectors have to be in memory that no compiler knows, read from a store or brought from outside. What it knows
+/// it computes, and then the unit does not.
 #[must_use]
+// Not inlined, so that it is found in the object code by its name.
 #[inline(never)]
 #[tactic(auto, using(crate::proofs::Computed::worked_examples))]
 pub fn self_test(vectors: &[[u8; CODEBLOCK_OCTETS]]) -> Option<usize>
