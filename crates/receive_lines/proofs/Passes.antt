@@ -117,6 +117,12 @@ module _ {X : Type 0} (hold : Ghosts X) where
       one_told before.queue full (at_event rules hold.showing s e).reports before.nothing_waits before.room_for_one (few_reports rules hold.showing s.phase s.held e)
       (subst (λ l. Queued l before.queue full) (ap (reports_of rules hold.showing s) one) queued)
 
+  -- and what is taken from it
+  pub told_is_taken : (call : Call) (e : Event) (before : Receiving X hold) (full left : Queue Report) (taken : Result Report Refusal) → events_in call ≡ e ∷ [] →
+      Queued (reports_made hold before.receiver call) before.queue full → taken ≡ take_answer (waiting full) →
+      OnOk taken (slots_of left ≡ without_oldest (slots_of full)) → OnErr taken (left ≡ full) → AllTaken full left taken
+  told_is_taken call e before full left taken one queued = all_taken full left taken (told_after call e before full one queued).few
+
   -- one event by a call, and what it tells
   pub passed_one : (call : Call) (e : Event) (before mid after : Receiving X hold) (full : Queue Report) (taken : Result Report Refusal) (report : Option Report) → events_in call ≡ e ∷ [] →
       Called hold call before.receiver mid.receiver → mid.log ≡ before.log → Queued (reports_made hold before.receiver call) before.queue full →

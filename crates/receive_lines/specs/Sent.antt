@@ -10,8 +10,8 @@ use Rattle.reception.specs.Allowance.{ReceivedCltu, symbols_of, wrong_in, Within
 use Rattle.receive_lines.specs.Lines.{Line, report_line, frame_line}
 use Rattle.receive_lines.specs.Pass.{rules}
 
--- so many idle bits or none, then a CLTU: the octets that its codeblocks were made of (the frame with its fill, which the
--- sender may have randomized), and what was received of it
+-- so many idle bits or none, then a CLTU: the octets that its codeblocks were made of (the frame with its fill, which
+-- the sender may have randomized), and what was received of it
 pub record SentCltu : Type 0 where
   pub first : Bool
   pub bits : ℕ

@@ -13,6 +13,7 @@ pub(crate) struct PassLog {
     pub(crate) text: String,
     pub(crate) reports: usize,
     pub(crate) frames: usize,
+    // Each has a line. A push that fails leaves the text as it was, which `writeln!` does not promise.
     ghost counted: { reports + frames ≤ length (string_bytes text) },
 }
 
