@@ -8,7 +8,7 @@ use Rattle.randomizer.specs.declared.Randomizer.{Randomizer}
 use Rattle.randomizer.specs.Sequence.{randomized}
 use Rattle.cltu.specs.Cltu.{codeblocks_for, filled, cltu}
 use Rattle.cltu.proofs.Places.{length_sent}
-use Rattle.hold.specs.Candidates.{Candidate, Showing, shown_from, Matches, finished_codeblocks}
+use Rattle.hold.specs.Candidates.{Candidate, Showing, Matches, finished_codeblocks}
 use Rattle.reception.specs.Decoding.{Settings, Held, room}
 use Rattle.reception.specs.Rules.{Phase, INACTIVE, SEARCH, DECODE, State, state, Event, carrier_up, carrier_down, symbol, made}
 use Rattle.reception.specs.Runs.{after_events, symbols_in, CarrierStaysUp, Clear}

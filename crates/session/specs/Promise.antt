@@ -70,8 +70,8 @@ EndsUp true s = Clear s.phase s.held
 EndsUp false s = s.phase ≡ INACTIVE
 
 module _ (receiver : ReceiverSettings) (showing : Showing) where
-  -- a receiver that is INACTIVE and hears what the calls put on the carrier, and whose hold has space at the first bit of
-  -- each CLTU, adds exactly the frames of the calls, in order
+  -- a receiver that is INACTIVE and hears what the calls put on the carrier, and whose hold has space at the first bit
+  -- of each CLTU, adds exactly the frames of the calls, in order
   abbrev pub AnyCallsInTimeAreReceived : Type 0
   AnyCallsInTimeAreReceived =
       (settings : Settings) (calls : List Call) (hold : Held) (earlier events : List Event) →
