@@ -8,7 +8,7 @@ use Rattle.randomizer.specs.declared.Randomizer.{Randomizer}
 use Rattle.randomizer.specs.Sequence.{randomized}
 use Rattle.cltu.specs.Cltu.{codeblocks_for, filled, cltu}
 use Rattle.cltu.proofs.Places.{length_sent}
-use Rattle.hold.specs.Candidates.{Candidate, Showing, shown_from, Matches, finished_codeblocks}
+use Rattle.hold.specs.Candidates.{Candidate, Showing, Matches, finished_codeblocks}
 use Rattle.reception.specs.Decoding.{Settings, Held, room}
 use Rattle.reception.specs.Rules.{Phase, INACTIVE, SEARCH, DECODE, State, state, Event, carrier_up, carrier_down, symbol, made}
 use Rattle.reception.specs.Runs.{after_events, symbols_in, CarrierStaysUp, Clear}
@@ -164,9 +164,10 @@ module _ (settings : Settings) (showing : Showing) (parameters : Parameters) (st
       let well = well_sent settings showing r (from_start to_first) t refl c.up c.symbols few.0 few.1 few.2 fits in
       let one = one_well_sent settings showing r (from_start to_first) gap.next gap.count gap.window gap.hold t at gap.opened gap.calm well in
       let hears-own = more_heard to_first c.own until (bits_of own) (hears.0 ∙ until-is) hears.1 c.up c.symbols in
+      let came : from_start (to_first ++ c.own) ≡ state (SEARCH 0 0) one.hold = after_append settings showing to_first c.own start ∙ one.goes.after in
       let behind : Known (SEARCH 0 0) true (to_first ++ c.own) one.hold (earlier ++ frame ∷ []) (until ++ signals_of_octets own) =
       record {
-        at = after_append settings showing to_first c.own start ∙ one.goes.after;
+        at = came;
         none = one.opened;
         signals = hears-own.0;
         carrier = hears-own.1;

@@ -1,11 +1,11 @@
 -- Space that was seen before a CLTU is there at its first bit. Assumes nothing.
-use Rattle.std.proofs.Common.{◌≡◌, ℕ, ◌+◌, ◌≤◌, Bool, true, false, List, [], ◌∷◌, ◌++◌, length, sym, refl, ap, ap₂, ◌∙◌, subst, arith}
+use Rattle.std.proofs.Common.{◌≡◌, ◌≤◌, Bool, true, false, List, [], ◌∷◌, ◌++◌, sym, refl, ap, ap₂, ◌∙◌, subst, arith}
 use Rattle.hold.specs.Candidates.{Candidate, Showing, finished_codeblocks, after_release}
 use Rattle.reception.specs.Decoding.{Settings, Held, room}
 use Rattle.reception.specs.Rules.{Phase, INACTIVE, SEARCH, DECODE, State, Event, carrier_up, carrier_down, symbol, release, at_up, at_event}
 use Rattle.reception.specs.Runs.{after_events, symbols_in, CarrierStaysUp}
 use Rattle.reception.proofs.Brings.{after_append}
-use Rattle.procedures.specs.Signals.{Signal, goes_up, bit, goes_down, heard, up_after}
+use Rattle.procedures.specs.Signals.{goes_up, goes_down, heard, up_after}
 use Rattle.procedures.specs.Reception.{SpaceSeenIsSpaceAt}
 use Rattle.procedures.proofs.Hearing.{up_append, heard_down, stays_down, stays_up, same_bit, same_rest}
 

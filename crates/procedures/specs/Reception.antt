@@ -4,9 +4,8 @@ use Rattle.std.specs.Int.Digits.{AllBelowBase}
 use Rattle.std.specs.List.{flat_map, AllByRecursion}
 use Rattle.bch.specs.Bits.{bits_of}
 use Rattle.randomizer.specs.declared.Randomizer.{Randomizer}
-use Rattle.randomizer.specs.Sequence.{randomized}
 use Rattle.cltu.specs.Cltu.{codeblocks_for, filled}
-use Rattle.hold.specs.Candidates.{Showing, shown_from, Matches}
+use Rattle.hold.specs.Candidates.{Showing, Matches}
 use Rattle.reception.specs.Calls.{symbol_events}
 use Rattle.reception.specs.Decoding.{Settings, Held, room}
 use Rattle.reception.specs.Rules.{INACTIVE, State, Event, carrier_up, carrier_down, symbol, made}
@@ -88,8 +87,8 @@ one_open acquisition writings =
     record { closed = []; opened = Some (record { acquisition = acquisition; writings = writings }) }
 
 module _ (settings : Settings) (showing : Showing) where
-  -- the new candidates of a run are these frames, filled, as the session randomized them and the hold shows them; over a
-  -- hold that matches, the filled frames
+  -- the new candidates of a run are these frames, filled, as the session randomized them and the hold shows them; over
+  -- a hold that matches, the filled frames
   pub record Adds (randomizer : Randomizer) (frames : List (List ℕ)) (s : State) (events : List Event) : Type 0 where
     pub shown : new_candidates settings showing s events ≡ map (λ frame. as_shown showing randomizer frame) frames
     pub filled_frames : Matches showing randomizer → new_candidates settings showing s events ≡ map filled frames

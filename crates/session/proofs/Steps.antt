@@ -1,5 +1,5 @@
 -- Each call is a step of the machine. Assumes nothing.
-use Rattle.std.proofs.Common.{◌≡◌, ℕ, ap₂, List, [], ◌∷◌, ◌++◌, length, take, drop, Ok, Err, Result, MatchResult, sym, refl, ap, ◌∙◌, subst}
+use Rattle.std.proofs.Common.{◌≡◌, ℕ, List, [], ◌∷◌, ◌++◌, length, take, drop, Ok, Err, Result, MatchResult, sym, refl, ap, ◌∙◌, subst}
 use Rattle.std.proofs.Math.Seq.{take-append_seam}
 use Rattle.refusals.specs.declared.Refusal.{Refusal}
 use Rattle.procedures.specs.declared.Plop.{Plop}
@@ -12,7 +12,7 @@ use Rattle.session.specs.declared.Locked.{Locked}
 use Rattle.session.specs.declared.AfterSending.{AfterSending}
 use Rattle.session.specs.Writing.{frame_at, memory_after, job_octets, job_answer, writings_of}
 use Rattle.session.specs.Calls.{state_after, sending, only_frame, next_octets, next_answer, next_writings}
-use Rattle.session.specs.Machine.{Standing, locked, Call, call_send, call_run_next, FrameMemoryOfOctets, Step, if_accepted, behind_a_frame, step, signals_between, standing_after, signals_of_calls, frames_of_calls, cltus_behind, cltus_of_calls, Session, locked_session, session_after, IsStep, StandsAfter}
+use Rattle.session.specs.Machine.{locked, Call, call_send, call_run_next, FrameMemoryOfOctets, Step, if_accepted, behind_a_frame, step, signals_between, standing_after, signals_of_calls, frames_of_calls, cltus_behind, cltus_of_calls, Session, locked_session, session_after, IsStep, StandsAfter}
 use Rattle.session.specs.Promise.{GoesOnBehind}
 use Rattle.session.proofs.Fronts.{Counts, counts_answer}
 

@@ -14,6 +14,27 @@ use Rattle.session.specs.Writing.{parameters_of}
 use Rattle.session.specs.declared.Silent.{Silent}
 use Rattle.session.specs.Machine.{Call, FrameMemoryOfOctets, bears_data, signals_between, standing_after, signals_of_calls, frames_of_calls, cltus_behind, cltus_of_calls, Session, silent_session, IsStep, StandsAfter}
 
+-- a step behind earlier calls is the latest of the calls: what it puts on the carrier comes behind what they put there
+pub record GoesOnBehind
+    (earlier : List Call) (before : Session) (call : Call) (after : Session)
+    (written : List ℕ) (frames : List (List ℕ)) : Type 0 where
+  pub stands : StandsAfter (call ∷ earlier) after
+  pub settings : after.settings ≡ before.settings
+  pub signals :
+      signals_of_calls after.settings (call ∷ earlier)
+      ≡ signals_of_calls before.settings earlier ++ signals_between before.standing written after.standing
+  pub its_frames : frames_of_calls after.settings (call ∷ earlier) ≡ frames_of_calls before.settings earlier ++ frames
+  pub cltus :
+      cltus_of_calls after.settings (call ∷ earlier)
+      ≡ cltus_of_calls before.settings earlier ++ cltus_behind before.settings earlier frames
+
+abbrev pub AStepGoesOn : Type 0
+AStepGoesOn =
+    (earlier : List Call) (before : Session) (call : Call) (after : Session)
+    (written : List ℕ) (frames : List (List ℕ)) →
+    StandsAfter earlier before → IsStep before call after written frames →
+    GoesOnBehind earlier before call after written frames
+
 -- an acquisition of 16 to 255 octets, frames within the session's limit, and in PLOP-1 one at most
 pub record InOrder (settings : Settings) (one : SentStretch) : Type 0 where
   pub least : 16 ≤ one.acquisition
@@ -36,29 +57,7 @@ abbrev pub AnyCallsAreStretches : Type 0
 AnyCallsAreStretches =
     (settings : Settings) (calls : List Call) → AllByRecursion FrameMemoryOfOctets calls → AreStretches settings calls
 
--- a call that is a step of the machine is the latest of the calls: what it puts on the carrier comes behind what they
--- did
-pub record GoesOnBehind
-    (earlier : List Call) (before : Session) (call : Call) (after : Session)
-    (written : List ℕ) (frames : List (List ℕ)) : Type 0 where
-  pub stands : StandsAfter (call ∷ earlier) after
-  pub settings : after.settings ≡ before.settings
-  pub signals :
-      signals_of_calls after.settings (call ∷ earlier)
-      ≡ signals_of_calls before.settings earlier ++ signals_between before.standing written after.standing
-  pub its_frames : frames_of_calls after.settings (call ∷ earlier) ≡ frames_of_calls before.settings earlier ++ frames
-  pub cltus :
-      cltus_of_calls after.settings (call ∷ earlier)
-      ≡ cltus_of_calls before.settings earlier ++ cltus_behind before.settings earlier frames
-
-abbrev pub AStepGoesOn : Type 0
-AStepGoesOn =
-    (earlier : List Call) (before : Session) (call : Call) (after : Session)
-    (written : List ℕ) (frames : List (List ℕ)) →
-    StandsAfter earlier before → IsStep before call after written frames →
-    GoesOnBehind earlier before call after written frames
-
--- so that they are within the limit of each receiver whose limit is no less
+-- and the frames are within the limit of each receiver whose limit is no less than the session's
 abbrev pub FramesOfCallsAreWithin : Type 0
 FramesOfCallsAreWithin =
     (settings : Settings) (calls : List Call) (limit : ℕ) → AllByRecursion FrameMemoryOfOctets calls →
@@ -70,8 +69,8 @@ EndsUp true s = Clear s.phase s.held
 EndsUp false s = s.phase ≡ INACTIVE
 
 module _ (receiver : ReceiverSettings) (showing : Showing) where
-  -- a receiver that is INACTIVE and hears what the calls put on the carrier, and whose hold has space at the first bit of
-  -- each CLTU, adds exactly the frames of the calls, in order
+  -- a receiver that is INACTIVE and hears what the calls put on the carrier, and whose hold has space at the first bit
+  -- of each CLTU, adds exactly the frames of the calls, in order
   abbrev pub AnyCallsInTimeAreReceived : Type 0
   AnyCallsInTimeAreReceived =
       (settings : Settings) (calls : List Call) (hold : Held) (earlier events : List Event) →
