@@ -1,13 +1,14 @@
 -- A run of events, and one behind it, are one run. Assumes nothing.
-use Rattle.std.proofs.Common.{◌≡◌, ◌+◌, List, [], ◌∷◌, ◌++◌, Bool, refl, ap, arith}
-use Rattle.hold.specs.Candidates.{Showing}
-use Rattle.reception.specs.Decoding.{Settings}
-use Rattle.reception.specs.Rules.{State, Event, carrier_up, carrier_down, symbol, release, at_event}
+use Rattle.std.proofs.Common.{◌≡◌, ℕ, zero, suc, ◌+◌, List, [], ◌∷◌, ◌++◌, Bool, drop, replicate, sym, refl, ap, ◌∙◌, append_assoc, arith}
+use Rattle.std.proofs.Math.Seq.{drop-nil}
+use Rattle.hold.specs.Candidates.{Candidate, Showing, after_release}
+use Rattle.reception.specs.Decoding.{Settings, Held}
+use Rattle.reception.specs.Rules.{State, state, Event, carrier_up, carrier_down, symbol, release, at_event}
 use Rattle.reception.specs.Runs.{after_events, symbols_in, CarrierStaysUp}
 use Rattle.reception.specs.Calls.{symbol_events}
 use Rattle.reception.specs.Finished.{releases_accepted}
 use Rattle.reception.specs.Gaps.{CarrierStaysDown}
-use Rattle.reception.specs.Joined.{RunsAreJoined}
+use Rattle.reception.specs.Joined.{without_oldest, RunsAreJoined}
 use Rattle.reception.proofs.Brings.{after_append, new_append, reports_append}
 
 symbols_append : (es fs : List Event) → symbols_in (es ++ fs) ≡ symbols_in es ++ symbols_in fs
@@ -39,11 +40,26 @@ up_called : (bits : List Bool) → CarrierStaysUp (symbol_events bits)
 up_called [] = tt
 up_called (b ∷ bits) = up_called bits
 
+abbrev with_finished : List Candidate → Held → Held
+with_finished finished h = record { capacity = h.capacity; finished = finished; opened = h.opened }
+
+rest : (count : ℕ) (finished : List Candidate) → drop count (after_release finished) ≡ drop (suc count) finished
+rest count [] = drop-nil count
+rest count (candidate ∷ more) = refl
+
 module _ (settings : Settings) (showing : Showing) where
   releases_append : (es fs : List Event) (s : State) →
       releases_accepted settings showing s (es ++ fs) ≡ releases_accepted settings showing s es + releases_accepted settings showing (after_events settings showing s es) fs
   releases_append [] fs s = omega arith
   releases_append (e ∷ es) fs s = omega (arith, releases_append es fs (at_event settings showing s e).after)
+
+  none_released : (bits : List Bool) (s : State) → releases_accepted settings showing s (symbol_events bits) ≡ 0
+  none_released [] s = refl
+  none_released (b ∷ bits) s = omega (arith, none_released bits (at_event settings showing s (symbol b)).after)
+
+  released : (count : ℕ) (s : State) → after_events settings showing s (replicate count release) ≡ without_oldest count s
+  released zero s = refl
+  released (suc count) s = released count (at_event settings showing s release).after ∙ ap (λ l. state s.phase (with_finished l s.held)) (rest count s.held.finished)
 
   pub runs_are_joined : RunsAreJoined settings showing
   runs_are_joined =
@@ -57,4 +73,6 @@ module _ (settings : Settings) (showing : Showing) where
         down = down_append;
         symbols_called = symbols_called;
         up_called = up_called;
+        none_released = λ s bits. none_released bits s;
+        released = λ s count. released count s;
       }

@@ -1,12 +1,17 @@
 -- A run of events, and one behind it, are one run: so a caller puts together what he knows of each. Assumes nothing.
-use Rattle.std.specs.Prelude.{◌≡◌, ◌+◌, Bool, List, ◌++◌}
+use Rattle.std.specs.Prelude.{◌≡◌, ℕ, ◌+◌, Bool, List, ◌++◌, drop, replicate}
 use Rattle.hold.specs.Candidates.{Showing}
 use Rattle.reception.specs.Decoding.{Settings}
-use Rattle.reception.specs.Rules.{State, Event}
+use Rattle.reception.specs.Rules.{State, state, Event, release}
 use Rattle.reception.specs.Runs.{after_events, reports_of, symbols_in, CarrierStaysUp}
 use Rattle.reception.specs.Calls.{symbol_events}
 use Rattle.reception.specs.Finished.{new_candidates, releases_accepted}
 use Rattle.reception.specs.Gaps.{CarrierStaysDown}
+
+-- a state, without so many of the oldest finished candidates
+abbrev pub without_oldest : ℕ → State → State
+without_oldest count s =
+    state s.phase (record { capacity = s.held.capacity; finished = drop count s.held.finished; opened = s.held.opened })
 
 pub record RunsAreJoined (settings : Settings) (showing : Showing) : Type 0 where
   pub state : (s : State) (first then : List Event) →
@@ -28,6 +33,11 @@ pub record RunsAreJoined (settings : Settings) (showing : Showing) : Type 0 wher
   pub up : (first then : List Event) → CarrierStaysUp first → CarrierStaysUp then → CarrierStaysUp (first ++ then)
   pub down : (first then : List Event) →
       CarrierStaysDown first → CarrierStaysDown then → CarrierStaysDown (first ++ then)
-  -- a symbols call has its symbols, and leaves the carrier up
+  -- a symbols call has its symbols, leaves the carrier up, and releases none
   pub symbols_called : (bits : List Bool) → symbols_in (symbol_events bits) ≡ bits
   pub up_called : (bits : List Bool) → CarrierStaysUp (symbol_events bits)
+  pub none_released : (s : State) (bits : List Bool) →
+      releases_accepted settings showing s (symbol_events bits) ≡ 0
+  -- releases, one behind the other, take as many of the oldest and change nothing else
+  pub released : (s : State) (count : ℕ) →
+      after_events settings showing s (replicate count release) ≡ without_oldest count s
