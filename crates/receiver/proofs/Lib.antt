@@ -2,3 +2,4 @@
 pub mod Queues
 pub mod Ran
 pub mod Decided
+pub mod Joined

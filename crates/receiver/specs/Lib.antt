@@ -3,3 +3,4 @@ pub mod Phases
 pub mod Meaning
 pub mod Calls
 pub mod Events
+pub mod Joined

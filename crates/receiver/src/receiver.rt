@@ -30,6 +30,7 @@ impl<H: Hold> Receiver<H> {
     ghost use Rattle.receiver.specs.Phases.{phase_of};
     ghost use Rattle.receiver.specs.Meaning.{settings_of, lost_of, hold_of, held_by, state_of, free_slots, symbols_call};
     ghost use Rattle.receiver.specs.Calls.{named, reports_made, CameBy, Called};
+    ghost use Rattle.receiver.specs.Joined.{PromiseOverCalls};
     ghost use Rattle.receiver.specs.Events.{events_of, refusal_of, refused_by, reported_by, reports_at, Queued, ComesTo, Told, Ran};
 
     /// A receiver with these settings over a hold in any state, which it owns from then on. The hold's
@@ -53,10 +54,12 @@ impl<H: Hold> Receiver<H> {
     }
 
     /// Carrier up: a search begins. Refused with 5 unless the receiver is INACTIVE.
+    #[tactic(auto, using(crate::proofs::Joined::promise_over_calls))]
     pub fn carrier_up(&mut self) -> Result<(), Refusal>
         ensures answer { result ≡ answered (refusal (state_of H.Hold self.old) call_up) tt }
         ensures after { Called H.Hold call_up self.old self.new }
         ensures refused { OnErr result (self.new ≡ self.old) }
+        ensures over_calls { PromiseOverCalls H.Hold }
     {
         self.at_event(Event::CarrierUp)?;
         Ok(())
@@ -64,6 +67,7 @@ impl<H: Hold> Receiver<H> {
 
     /// Carrier down: the receiver is INACTIVE. An open candidate is abandoned, and the report of it goes
     /// into the queue or, where that is full, is lost. Refused with 6 where the receiver is INACTIVE.
+    #[tactic(auto, using(crate::proofs::Joined::promise_over_calls))]
     pub fn carrier_down(&mut self, reports: &mut Queue<'_, Report>) -> Result<(), Refusal>
         ensures answer { result
             ≡ answered (refusal (state_of H.Hold self.old) (call_down (free_slots reports.old))) tt }
@@ -71,6 +75,7 @@ impl<H: Hold> Receiver<H> {
         ensures queued { Queued (reports_made H.Hold self.old (call_down (free_slots reports.old)))
             reports.old reports.new }
         ensures refused { OnErr result ((self.new ≡ self.old) × (reports.new ≡ reports.old)) }
+        ensures over_calls { PromiseOverCalls H.Hold }
     {
         self.take_event(Event::CarrierDown, reports)?;
         Ok(())
@@ -91,16 +96,19 @@ impl<H: Hold> Receiver<H> {
         ensures queued { Queued (reports_made H.Hold self.old (symbols_call S.Symbol symbols.now reports.old))
             reports.old reports.new }
         ensures refused { OnErr result ((self.new ≡ self.old) × (reports.new ≡ reports.old)) }
+        ensures over_calls { PromiseOverCalls H.Hold }
     {
         self.at_event(Event::Symbols)?;
         Ok(self.take_symbols(symbols, reports))
     }
 
     /// Removes the oldest finished candidate from the hold. Refused with 7 where none waits.
+    #[tactic(auto, using(crate::proofs::Joined::promise_over_calls))]
     pub fn release(&mut self) -> Result<(), Refusal>
         ensures answer { result ≡ answered (refusal (state_of H.Hold self.old) call_release) tt }
         ensures after { Called H.Hold call_release self.old self.new }
         ensures refused { OnErr result (self.new ≡ self.old) }
+        ensures over_calls { PromiseOverCalls H.Hold }
     {
         self.hold.release()
     }
