@@ -1,0 +1,6 @@
+-- What the proofs share. Assumes nothing.
+pub mod Idle
+pub mod Used
+pub mod Recovered
+pub mod Released
+pub mod Commanded

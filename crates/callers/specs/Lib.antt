@@ -1,0 +1,3 @@
+-- What the examples promise, in words of their own. Assumes nothing.
+pub mod InUse
+pub mod Command
