@@ -36,6 +36,10 @@ symbols_called : (bits : List Bool) → symbols_in (symbol_events bits) ≡ bits
 symbols_called [] = refl
 symbols_called (b ∷ bits) = ap (λ l. b ∷ l) (symbols_called bits)
 
+symbols_joined : (bits more : List Bool) → symbol_events (bits ++ more) ≡ symbol_events bits ++ symbol_events more
+symbols_joined [] more = refl
+symbols_joined (b ∷ bits) more = ap (λ l. symbol b ∷ l) (symbols_joined bits more)
+
 up_called : (bits : List Bool) → CarrierStaysUp (symbol_events bits)
 up_called [] = tt
 up_called (b ∷ bits) = up_called bits
@@ -73,6 +77,7 @@ module _ (settings : Settings) (showing : Showing) where
         down = down_append;
         symbols_called = symbols_called;
         up_called = up_called;
+        symbols_joined = symbols_joined;
         none_released = λ s bits. none_released bits s;
         released = λ s count. released count s;
       }

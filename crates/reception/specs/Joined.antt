@@ -33,9 +33,11 @@ pub record RunsAreJoined (settings : Settings) (showing : Showing) : Type 0 wher
   pub up : (first then : List Event) → CarrierStaysUp first → CarrierStaysUp then → CarrierStaysUp (first ++ then)
   pub down : (first then : List Event) →
       CarrierStaysDown first → CarrierStaysDown then → CarrierStaysDown (first ++ then)
-  -- a symbols call has its symbols, leaves the carrier up, and releases none
+  -- a symbols call has its symbols, leaves the carrier up, joins with another to one, and releases none
   pub symbols_called : (bits : List Bool) → symbols_in (symbol_events bits) ≡ bits
   pub up_called : (bits : List Bool) → CarrierStaysUp (symbol_events bits)
+  pub symbols_joined : (bits more : List Bool) →
+      symbol_events (bits ++ more) ≡ symbol_events bits ++ symbol_events more
   pub none_released : (s : State) (bits : List Bool) →
       releases_accepted settings showing s (symbol_events bits) ≡ 0
   -- releases, one behind the other, take as many of the oldest and change nothing else
