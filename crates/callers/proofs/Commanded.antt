@@ -1,19 +1,19 @@
 -- A command that comes behind idle. Assumes nothing.
-use Rattle.std.proofs.Common.{◌≡◌, ℕ, ◌+◌, ◌-◌, ◌≤◌, Bool, List, [], ◌∷◌, ◌++◌, map, length, drop, false, cond, Ok, Err, Result, nat_lt, refl, sym, ap, ◌∙◌, subst, ap₂, append-nil, inl, arith}
+use Rattle.std.proofs.Common.{◌≡◌, ℕ, ◌+◌, ◌-◌, ◌≤◌, Bool, List, [], ◌∷◌, ◌++◌, length, drop, false, cond, Ok, Err, Result, nat_lt, refl, sym, ap, ◌∙◌, subst, ap₂, append-nil, arith}
 use Rattle.std.proofs.lemmas.List.{drop_all}
 use Rattle.std.proofs.lemmas.Bool.{le-ltb}
 use Rattle.refusals.specs.declared.Refusal.{Refusal}
 use Rattle.refusals.specs.declared.Refusal.TheVariants.{MemoryTooShort}
 use Rattle.cltu.specs.Cltu.{filled}
 use Rattle.hold.specs.declared.Hold.{Ghosts}
-use Rattle.hold.specs.Candidates.{Candidate, Showing, open_codeblocks, finished_codeblocks, copy_answer, after_copy}
+use Rattle.hold.specs.Candidates.{Candidate, open_codeblocks, finished_codeblocks, copy_answer, after_copy}
 use Rattle.queue.specs.declared.slots.Queue.{Queue}
 use Rattle.reception.specs.declared.Report.{Report}
-use Rattle.reception.specs.Decoding.{Settings, Held, room}
-use Rattle.reception.specs.Rules.{Phase, INACTIVE, SEARCH, DECODE, State, Event, made}
+use Rattle.reception.specs.Decoding.{Held, room}
+use Rattle.reception.specs.Rules.{Phase, INACTIVE, SEARCH, DECODE, made}
 use Rattle.reception.specs.Runs.{after_events, Clear}
 use Rattle.reception.specs.Calls.{symbol_events, events_of_calls}
-use Rattle.reception.specs.Finished.{new_candidates, releases_accepted}
+use Rattle.reception.specs.Finished.{new_candidates}
 use Rattle.reception.specs.Sent.{Transmission, events_of, WellSent}
 use Rattle.reception.specs.Joined.{without_oldest}
 use Rattle.reception.specs.Promise.{ReceiverPromise}
@@ -60,36 +60,36 @@ module _ {X : Type 0} (hold : Ghosts X) where
       let joined = promise.joined in
       let then = after_events rules shown (made back.in_use.over) (earlier ++ releases count) in
       let here : then ≡ without_oldest count start =
-          joined.state (made back.in_use.over) earlier (releases count)
-          ∙ ap (λ u. after_events rules shown u (releases count)) (sym (by_its_events hold before back.in_use promise)) ∙ joined.released start count in
+      joined.state (made back.in_use.over) earlier (releases count)
+      ∙ ap (λ u. after_events rules shown u (releases count)) (sym (by_its_events hold before back.in_use promise)) ∙ joined.released start count in
       let none : drop count start.held.finished ≡ [] = drop_all count start.held.finished (omega arith) in
       let clear : Clear then.phase then.held =
-          subst (λ u. Clear u.phase u.held) (sym here) (still_clear start.phase start.held (drop count start.held.finished) back.clear) in
+      subst (λ u. Clear u.phase u.held) (sym here) (still_clear start.phase start.held (drop count start.held.finished) back.clear) in
       let free : room then.held ≡ start.held.capacity =
-          ap (λ u. room u.held) here ∙ all_free start.phase start.held (drop count start.held.finished) back.clear none in
+      ap (λ u. room u.held) here ∙ all_free start.phase start.held (drop count start.held.finished) back.clear none in
       let sent : Transmission = record { gap = []; frame = frame; received = command.cltu; events = later } in
       let all : events_of (sent ∷ []) ≡ later = append-nil later in
       let well : WellSent rules shown command.randomizer then sent =
-          record {
-            octets = command.octets;
-            carrier = joined.up_called symbols;
-            symbols = joined.symbols_called symbols ∙ command.comes;
-            within = command.within;
-            space = subst (λ n. length command.cltu.blocks ≤ n) (sym free) command.space;
-          } in
+      record {
+        octets = command.octets;
+        carrier = joined.up_called symbols;
+        symbols = joined.symbols_called symbols ∙ command.comes;
+        within = command.within;
+        space = subst (λ n. length command.cltu.blocks ≤ n) (sym free) command.space;
+      } in
       let got = promise.promise.received command.randomizer back.in_use.over (earlier ++ releases count) (sent ∷ []) clear (refl, well, tt) in
       let last = after_events rules shown then later in
       let clear_last : Clear last.phase last.held =
-          subst (λ es. Clear (after_events rules shown then es).phase (after_events rules shown then es).held) all got.0 in
+      subst (λ es. Clear (after_events rules shown then es).phase (after_events rules shown then es).held) all got.0 in
       let new : new_candidates rules shown then later ≡ filled frame ∷ [] =
-          ap (new_candidates rules shown then) (sym all) ∙ got.2 command.matches in
+      ap (new_candidates rules shown then) (sym all) ∙ got.2 command.matches in
       let finished : last.held.finished ≡ filled frame ∷ [] =
-          promise.promise.stays back.in_use.over (earlier ++ releases count) later
-          ∙ ap₂ (λ n l. drop n (l ++ new_candidates rules shown then later)) (joined.none_released then symbols) (ap (λ u. u.held.finished) here ∙ none)
-          ∙ new in
+      promise.promise.stays back.in_use.over (earlier ++ releases count) later
+      ∙ ap₂ (λ n l. drop n (l ++ new_candidates rules shown then later)) (joined.none_released then symbols) (ap (λ u. u.held.finished) here ∙ none)
+      ∙ new in
       let there : state_of hold after ≡ last =
-          ran.state ∙ joined.state start (releases count) later
-          ∙ ap (λ u. after_events rules shown u later) (joined.released start count ∙ sym here) in
+      ran.state ∙ joined.state start (releases count) later
+      ∙ ap (λ u. after_events rules shown u later) (joined.released start count ∙ sym here) in
       let clear_after : Clear (state_of hold after).phase (held_by hold after) = subst (λ u. Clear u.phase u.held) (sym there) clear_last in (
         ap (λ u. u.held.finished) there ∙ finished,
         record { state = in_search _ _ clear_after; none_open = none_open _ _ clear_after; clear = clear_after; in_use = used },

@@ -4,3 +4,6 @@ pub mod Used
 pub mod Recovered
 pub mod Released
 pub mod Commanded
+pub mod Heard
+pub mod Sent
+pub mod Received

@@ -1,10 +1,10 @@
 -- Idle that brings a receiver back. Assumes nothing.
-use Rattle.std.proofs.Common.{◌≡◌, ℕ, ◌≤◌, ◌/◌, Bool, List, [], ◌∷◌, ◌++◌, take, drop, refl, sym, ap, ◌∙◌, subst, ap₂}
+use Rattle.std.proofs.Common.{◌≡◌, ℕ, ◌≤◌, ◌/◌, Bool, List, [], ◌∷◌, ◌++◌, take, drop, sym, ap, ◌∙◌, subst, ap₂}
 use Rattle.std.proofs.lemmas.List.{take-append-drop}
 use Rattle.hold.specs.declared.Hold.{Ghosts}
 use Rattle.queue.specs.declared.slots.Queue.{Queue}
 use Rattle.reception.specs.declared.Report.{Report}
-use Rattle.reception.specs.Rules.{Event, release, made}
+use Rattle.reception.specs.Rules.{release, made}
 use Rattle.reception.specs.Runs.{after_events, symbols_in, CarrierStaysUp, CarrierIsUp, Clear, idle}
 use Rattle.reception.specs.Calls.{symbol_events, events_of_calls}
 use Rattle.reception.specs.Promise.{ReceiverPromise}
@@ -39,12 +39,12 @@ module _ {X : Type 0} (hold : Ghosts X) where
       let here = by_its_events hold before used promise in
       let joined = promise.joined in
       let stays : CarrierStaysUp later =
-          joined.up (symbol_events front) ((release ∷ []) ++ symbol_events behind) (joined.up_called front) (joined.up_called behind) in
+      joined.up (symbol_events front) ((release ∷ []) ++ symbol_events behind) (joined.up_called front) (joined.up_called behind) in
       let symbols : symbols_in later ≡ idle first bits =
-          joined.symbols (symbol_events front) ((release ∷ []) ++ symbol_events behind)
-          ∙ ap₂ ◌++◌ (joined.symbols_called front) (joined.symbols_called behind) ∙ take-append-drop (bits / 2) (idle first bits) in
+      joined.symbols (symbol_events front) ((release ∷ []) ++ symbol_events behind)
+      ∙ ap₂ ◌++◌ (joined.symbols_called front) (joined.symbols_called behind) ∙ take-append-drop (bits / 2) (idle first bits) in
       let back = promise.promise.back used.over earlier later first bits (subst (λ s. CarrierIsUp s.phase) here up) stays symbols enough in
       let there : state_of hold after ≡ after_events rules shown (after_events rules shown (made used.over) earlier) later =
-          ran.state ∙ ap (λ s. after_events rules shown s later) here in
+      ran.state ∙ ap (λ s. after_events rules shown s later) here in
       let clear : Clear (state_of hold after).phase (held_by hold after) = subst (λ s. Clear s.phase s.held) (sym there) back in
       record { state = in_search _ _ clear; none_open = none_open _ _ clear; clear = clear; in_use = used_after }

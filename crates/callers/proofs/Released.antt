@@ -1,5 +1,5 @@
 -- Releases, one behind the other. Assumes nothing.
-use Rattle.std.proofs.Common.{◌≡◌, ℕ, ◌+◌, List, [], ◌∷◌, ◌++◌, replicate, refl, sym, ap, ◌∙◌, subst}
+use Rattle.std.proofs.Common.{ℕ, ◌+◌, [], ◌∷◌, subst}
 use Rattle.std.proofs.lemmas.List.{replicate-append-replicate}
 use Rattle.hold.specs.declared.Hold.{Ghosts}
 use Rattle.queue.specs.declared.slots.Queue.{Queue}

@@ -1,19 +1,18 @@
 -- A receiver in use: its state by the events so far, and calls joined. Assumes nothing.
-use Rattle.std.proofs.Common.{◌≡◌, ℕ, ◌≤◌, Bool, List, [], ◌∷◌, ◌++◌, take, drop, Ok, Result, refl, sym, ap, ◌∙◌, subst, arith}
-use Rattle.refusals.specs.declared.Refusal.{Refusal}
+use Rattle.std.proofs.Common.{◌≡◌, Bool, List, ◌∷◌, Ok, refl, ap, ◌∙◌, subst}
 use Rattle.hold.specs.declared.Hold.{Ghosts}
 use Rattle.queue.specs.declared.slots.Queue.{Queue}
 use Rattle.reception.specs.declared.Report.{Report}
 use Rattle.reception.specs.Decoding.{Held, added}
-use Rattle.reception.specs.Rules.{State, Phase, INACTIVE, SEARCH, DECODE, Event, release, made}
+use Rattle.reception.specs.Rules.{Phase, INACTIVE, SEARCH, DECODE, Event, made}
 use Rattle.reception.specs.Runs.{after_events, CarrierIsUp, Clear}
-use Rattle.reception.specs.Calls.{Call, call_symbols, call_release, symbol_events, refused_if_down, answered, events_of_calls}
+use Rattle.reception.specs.Calls.{Call, call_symbols, symbol_events, refused_if_down, answered, events_of_calls}
 use Rattle.reception.specs.Promise.{ReceiverPromise}
 use Rattle.decoding.specs.Meaning.{rules_of}
 use Rattle.receiver.specs.declared.receiver.Receiver.{Receiver}
 use Rattle.receiver.specs.declared.receiver_state.ReceiverState.TheVariants.{Search}
-use Rattle.receiver.specs.Meaning.{settings_of, held_by, state_of, free_slots}
-use Rattle.receiver.specs.Calls.{named, reports_made, CameBy, Called}
+use Rattle.receiver.specs.Meaning.{settings_of, state_of, free_slots}
+use Rattle.receiver.specs.Calls.{named, reports_made, Called}
 use Rattle.receiver.specs.Events.{Queued, Ran}
 use Rattle.receiver.specs.Joined.{PromiseOverCalls}
 use Rattle.callers.specs.InUse.{InUse}

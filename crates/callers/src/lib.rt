@@ -2,9 +2,11 @@
 //! alone, and is meant to be copied.
 #![tactic(auto)]
 
+mod both_ends;
 mod carrier;
 mod command;
 mod recovery;
 
+pub use both_ends::{SenderSettings, send_two};
 pub use command::receive_command;
 pub use recovery::recover;

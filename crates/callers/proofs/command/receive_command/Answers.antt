@@ -1,12 +1,5 @@
 -- A command, once what was finished is released. Assumes nothing.
-use Rattle.std.proofs.Common.{◌++◌, length, subst}
 use Rattle.std.proofs.lemmas.List.{map-id}
-use Rattle.reception.specs.Calls.{symbol_events}
-use Rattle.reception.specs.Promise.{ReceiverPromise}
-use Rattle.decoding.specs.Meaning.{rules_of}
-use Rattle.receiver.specs.Meaning.{held_by}
-use Rattle.receiver.specs.Events.{Ran}
-use Rattle.callers.specs.Command.{releases}
 use Rattle.callers.proofs.Used.{used_on, heard}
 use Rattle.callers.proofs.Commanded.{commanded, copied_in_front}
 use Rattle.callers.proofs.command.receive_command.Goals as goal
@@ -28,7 +21,7 @@ returns-clause-received g c back frame command enough =
     let runs = c.symbols.ensures.over_calls in
     let released = c.release_all.ensures.released runs c.args.reports.now in
     let ran = runs.joined _ _ c.args.receiver.now c.release_all.new.receiver c.symbols.new.self c.args.reports.now c.args.reports.now c.symbols.new.reports released
-        (heard hold c.args.symbols.now _ _ _ c.args.reports.now _ runs (map-id _) c.symbols.ensures.after c.symbols.ensures.queued) in
+    (heard hold c.args.symbols.now _ _ _ c.args.reports.now _ runs (map-id _) c.symbols.ensures.after c.symbols.ensures.queued) in
     let used = used_on hold _ _ _ c.symbols.ensures.after (c.release_all.ensures.in_use back.in_use) in
     let received = commanded hold frame c.args.symbols.now c.args.receiver.now c.symbols.new.self _ _ (runs.promise c.args.receiver.now) back command ran used in
     (copied_in_front frame _ _ _ _ received.0 enough c.copy_oldest.ensures.answer c.copy_oldest.ensures.memory, received.1)

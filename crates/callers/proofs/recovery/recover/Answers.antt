@@ -1,5 +1,5 @@
 -- Idle with a release in its middle. Assumes nothing.
-use Rattle.std.proofs.Common.{◌/◌, length, take, drop, refl, sym, ap, ◌∙◌}
+use Rattle.std.proofs.Common.{◌/◌, length, take, drop, ap, ◌∙◌}
 use Rattle.std.proofs.lemmas.List.{map-id}
 use Rattle.callers.proofs.Used.{up_if_accepted, used_on, heard}
 use Rattle.callers.proofs.Recovered.{around_a_release, back_in_search}

@@ -1,0 +1,61 @@
+-- Two frames from a session in PLOP-2 to a receiver. Assumes nothing.
+use Rattle.std.specs.Prelude.{◌≡◌, ℕ, ◌≤◌, List, [], ◌∷◌, ◌++◌, length, take, drop}
+use Rattle.bch.specs.Bits.{bits_of}
+use Rattle.reception.specs.Rules.{Event, carrier_up}
+use Rattle.reception.specs.Calls.{symbol_events}
+use Rattle.hold.specs.declared.Hold.{Ghosts}
+use Rattle.hold.specs.Candidates.{Matches}
+use Rattle.reception.specs.Decoding.{room}
+use Rattle.decoding.specs.Meaning.{rules_of}
+use Rattle.receiver.specs.declared.receiver.Receiver.{Receiver}
+use Rattle.receiver.specs.Meaning.{settings_of, held_by}
+use Rattle.procedures.specs.declared.Plop.TheVariants.{Two}
+use Rattle.procedures.specs.Stretch.{Parameters, Writing, sends, idles, stretch_octets}
+use Rattle.procedures.specs.Reception.{FramesWithin, codeblocks_of}
+use Rattle.session.specs.declared.Locked.{Locked}
+use Rattle.session.specs.Writing.{parameters_of, GoesOn}
+use Rattle.callers.specs.declared.both_ends.SenderSettings.{SenderSettings}
+
+abbrev pub parameters : SenderSettings → Parameters
+parameters sender = record { plop = Two; randomizer = sender.randomizer; idle = sender.idle }
+
+-- the frames, with no idle behind each but what the procedure writes
+abbrev pub two_frames : (first second : List ℕ) → List Writing
+two_frames first second = sends first ∷ idles 0 ∷ sends second ∷ idles 0 ∷ []
+
+-- so many octets in front of the memory are the stretch, whose frames are within the sender's limit, and the rest is as it was
+pub record IsStretchInFront
+    (sender : SenderSettings) (acquisition : ℕ) (first second memory now : List ℕ) (octets : ℕ) : Type 0 where
+  pub within : octets ≤ length now
+  pub written : take octets now ≡ stretch_octets (parameters sender) acquisition (two_frames first second)
+  pub rest : drop octets now ≡ drop octets memory
+  pub fit : FramesWithin sender.«limit» (first ∷ second ∷ [])
+
+-- the carrier goes up, and these octets are heard
+abbrev pub raised_for : List ℕ → List Event
+raised_for octets = (carrier_up ∷ []) ++ symbol_events (bits_of octets)
+
+-- a frame that was written in front of the memory, behind what the session wrote before
+pub record SentInFront (before : Locked) (frame memory now : List ℕ) (after : Locked) (count : ℕ) : Type 0 where
+  pub same : after.settings ≡ before.settings
+  pub within : count ≤ length memory
+  pub goes_on : GoesOn before.settings (sends frame ∷ idles 0 ∷ []) (take count now)
+  pub rest : drop count now ≡ drop count memory
+  pub fits : FramesWithin before.settings.sender.limit.count (frame ∷ [])
+
+-- and one behind so many octets that were a stretch: these and it are a stretch
+pub record SentBehind (before : Locked) (frame : List ℕ) (written : ℕ) (memory now : List ℕ) (after : Locked) (count : ℕ) : Type 0 where
+  pub same : after.settings ≡ before.settings
+  pub further : written ≤ count
+  pub within : count ≤ length now
+  pub stretch : (acquisition : ℕ) (earlier : List Writing) →
+      take written memory ≡ stretch_octets (parameters_of before.settings) acquisition earlier →
+      take count now ≡ stretch_octets (parameters_of before.settings) acquisition (earlier ++ sends frame ∷ idles 0 ∷ [])
+  pub rest : drop count now ≡ drop count memory
+  pub fits : FramesWithin before.settings.sender.limit.count (frame ∷ [])
+
+-- a receiver that takes as many codeblocks as the sender sends, over a hold that matches it and has space for both frames
+pub record FitsTheSender {X : Type 0} (hold : Ghosts X) (r : Receiver X) (sender : SenderSettings) (first second : List ℕ) : Type 0 where
+  pub matches : Matches hold.showing sender.randomizer
+  pub limits : sender.«limit» ≤ (rules_of (settings_of r)).limit
+  pub space : codeblocks_of (first ∷ second ∷ []) ≤ room (held_by hold r)
