@@ -27,7 +27,8 @@ parameters sender = record { plop = Two; randomizer = sender.randomizer; idle = 
 abbrev pub two_frames : (first second : List ℕ) → List Writing
 two_frames first second = sends first ∷ idles 0 ∷ sends second ∷ idles 0 ∷ []
 
--- so many octets in front of the memory are the stretch, whose frames are within the sender's limit, and the rest is as it was
+-- so many octets in front of the memory are the stretch, whose frames are within the sender's limit, and the rest is as
+-- it was
 pub record IsStretchInFront
     (sender : SenderSettings) (acquisition : ℕ) (first second memory now : List ℕ) (octets : ℕ) : Type 0 where
   pub within : octets ≤ length now
@@ -48,18 +49,22 @@ pub record SentInFront (before : Locked) (frame memory now : List ℕ) (after : 
   pub fits : FramesWithin before.settings.sender.limit.count (frame ∷ [])
 
 -- and one behind so many octets that were a stretch: these and it are a stretch
-pub record SentBehind (before : Locked) (frame : List ℕ) (written : ℕ) (memory now : List ℕ) (after : Locked) (count : ℕ) : Type 0 where
+pub record SentBehind
+    (before : Locked) (frame : List ℕ) (written : ℕ) (memory now : List ℕ) (after : Locked) (count : ℕ) : Type 0 where
   pub same : after.settings ≡ before.settings
   pub further : written ≤ count
   pub within : count ≤ length now
   pub stretch : (acquisition : ℕ) (earlier : List Writing) →
       take written memory ≡ stretch_octets (parameters_of before.settings) acquisition earlier →
-      take count now ≡ stretch_octets (parameters_of before.settings) acquisition (earlier ++ sends frame ∷ idles 0 ∷ [])
+      take count now
+      ≡ stretch_octets (parameters_of before.settings) acquisition (earlier ++ sends frame ∷ idles 0 ∷ [])
   pub rest : drop count now ≡ drop count memory
   pub fits : FramesWithin before.settings.sender.limit.count (frame ∷ [])
 
--- a receiver that takes as many codeblocks as the sender sends, over a hold that matches it and has space for both frames
-pub record FitsTheSender {X : Type 0} (hold : Ghosts X) (r : Receiver X) (sender : SenderSettings) (first second : List ℕ) : Type 0 where
+-- a receiver that takes as many codeblocks as the sender sends, over a hold that matches it and has space for both
+-- frames
+pub record FitsTheSender
+    {X : Type 0} (hold : Ghosts X) (r : Receiver X) (sender : SenderSettings) (first second : List ℕ) : Type 0 where
   pub matches : Matches hold.showing sender.randomizer
   pub limits : sender.«limit» ≤ (rules_of (settings_of r)).limit
   pub space : codeblocks_of (first ∷ second ∷ []) ≤ room (held_by hold r)
@@ -69,7 +74,7 @@ abbrev pub and_then : Result ℕ Refusal → (ℕ → Result ℕ Refusal) → Re
 and_then (Ok count) next = next count
 and_then (Err why) next = Err why
 
--- a frame behind so many octets of memory that has so many: how many these are with its CLTU, and the idle octet behind it
+-- a frame behind so many octets of memory that has so many: how many they are with its CLTU and the idle octet behind
 abbrev pub frame_answer : (limit : ℕ) → Parameters → (memory : ℕ) → List ℕ → (written : ℕ) → Result ℕ Refusal
 frame_answer limit settings memory frame written =
     cond (frame_refused limit (length frame)) (Err FrameLength)

@@ -22,7 +22,7 @@ use session::{AfterSending, FrameSpan, Locked, Silent};
 /// How a sending session is made: by PLOP-2, with these.
 #[derive(Clone, Copy)]
 pub struct SenderSettings {
-    /// The greatest count of codeblocks in a CLTU.
+    /// How many codeblocks its CLTUs have at most.
     pub limit: usize,
     /// Whether frames are randomized.
     pub randomizer: Randomizer,
@@ -100,8 +100,9 @@ fn send_behind(
 ) -> Result<(Locked, usize), Refusal>
     requires plop { session.settings.plop ≡ Plop.Two }
     requires within { written ≤ length memory.old }
-    ensures answer { let frame_answer = frame_answer session.settings.sender.limit.count (parameters_of session.settings) in
-        counted result ≡ frame_answer (length memory.old) frame.now written }
+    ensures answer { counted result
+        ≡ frame_answer session.settings.sender.limit.count (parameters_of session.settings)
+        (length memory.old) frame.now written }
     ensures behind { IfOk result (λ done. SentBehind session frame.now written memory.old memory.new done.0 done.1) }
 {
     let (session, sent) = send_frame(session, frame, &mut memory[written..])?;
@@ -111,8 +112,9 @@ fn send_behind(
 // Writes the CLTU of a frame in PLOP-2, where another may follow.
 fn send_frame(session: Locked, frame: &[u8], memory: &mut [u8]) -> Result<(Locked, usize), Refusal>
     requires { session.settings.plop ≡ Plop.Two }
-    ensures answer { let frame_answer = frame_answer session.settings.sender.limit.count (parameters_of session.settings) in
-        counted result ≡ frame_answer (length memory.old) frame.now 0 }
+    ensures answer { counted result
+        ≡ frame_answer session.settings.sender.limit.count (parameters_of session.settings)
+        (length memory.old) frame.now 0 }
     ensures front { IfOk result (λ done. SentInFront session frame.now memory.old memory.new done.0 done.1) }
 {
     let whole = FrameSpan {

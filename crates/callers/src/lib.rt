@@ -59,8 +59,8 @@ mod tests {
         }
     }
 
-    // A client's own, which keeps a receiver over lent cells beside a queue. Both are lent to a call inside its methods:
-    // the checker does not follow a caller of these who lends one field beside the other.
+    // A client's own, which keeps a receiver over lent cells beside a queue. Its methods lend both to one
+    // call: the checker does not follow a function that owns a board and lends one field beside the other.
     #[derive(Drop)]
     struct Board<'a> {
         receiver: Receiver<Ring<'a>>,
