@@ -5,5 +5,6 @@ pub mod Recovered
 pub mod Released
 pub mod Commanded
 pub mod Heard
+pub mod Answered
 pub mod Sent
 pub mod Received

@@ -1,31 +1,26 @@
 -- Two frames of a session as a receiver takes them. Assumes nothing.
-use Rattle.std.proofs.Common.{◌≡◌, ℕ, ◌≤◌, List, [], ◌∷◌, ◌++◌, drop, Ok, refl, sym, ap, ◌∙◌, subst, ap₂, arith}
+use Rattle.std.proofs.Common.{◌≡◌, ℕ, ◌≤◌, List, [], ◌∷◌, ◌++◌, drop, sym, ap, ◌∙◌, subst, ap₂, arith, None}
 use Rattle.bch.specs.Bits.{bits_of}
 use Rattle.cltu.specs.Cltu.{filled}
 use Rattle.hold.specs.declared.Hold.{Ghosts}
 use Rattle.queue.specs.declared.slots.Queue.{Queue}
 use Rattle.reception.specs.declared.Report.{Report}
 use Rattle.reception.specs.Decoding.{room}
-use Rattle.reception.specs.Rules.{Phase, INACTIVE, SEARCH, DECODE, carrier_up, made, at_event}
+use Rattle.reception.specs.Rules.{carrier_up, made, at_event}
 use Rattle.reception.specs.Runs.{after_events, Clear}
-use Rattle.reception.specs.Calls.{symbol_events, refused_if_up, answered, events_of_calls}
+use Rattle.reception.specs.Calls.{symbol_events, refused_if_up, events_of_calls}
 use Rattle.reception.specs.Finished.{releases_accepted}
-use Rattle.reception.specs.Promise.{ReceiverPromise}
 use Rattle.decoding.specs.Meaning.{rules_of}
 use Rattle.receiver.specs.declared.receiver.Receiver.{Receiver}
 use Rattle.receiver.specs.Meaning.{settings_of, held_by, state_of}
+use Rattle.receiver.specs.Joined.{PromiseOverCalls}
 use Rattle.receiver.specs.Events.{Ran}
 use Rattle.procedures.specs.Stretch.{stretch_octets}
 use Rattle.procedures.specs.Reception.{FramesWithin, codeblocks_of, SessionPromise}
 use Rattle.callers.specs.declared.both_ends.SenderSettings.{SenderSettings}
 use Rattle.callers.specs.InUse.{InUse, BackInSearch}
 use Rattle.callers.specs.BothEnds.{parameters, two_frames, raised_for, FitsTheSender}
-use Rattle.callers.proofs.Used.{in_search, none_open, by_its_events}
-
-pub down_if_raised : (p : Phase) (x : Unit {0}) → Ok x ≡ answered (refused_if_up p) tt → p ≡ INACTIVE
-down_if_raised INACTIVE x e = refl
-down_if_raised (SEARCH count window) x e = absurd (cc)
-down_if_raised (DECODE r) x e = absurd (cc)
+use Rattle.callers.proofs.Used.{by_its_events, back}
 
 within_more : (m n : ℕ) (frames : List (List ℕ)) → m ≤ n → FramesWithin m frames → FramesWithin n frames
 within_more m n [] more within = tt
@@ -33,21 +28,21 @@ within_more m n (frame ∷ frames) more within = (within.0, within.1, omega (ari
 
 module _ {X : Type 0} (hold : Ghosts X) where
   pub two_received : (sender : SenderSettings) (acquisition : ℕ) (first second octets : List ℕ) (before after : Receiver X) (q s : Queue Report) →
-      SessionPromise → ReceiverPromise (rules_of (settings_of before)) hold.showing →
+      SessionPromise → PromiseOverCalls hold →
       octets ≡ stretch_octets (parameters sender) acquisition (two_frames first second) → FramesWithin sender.«limit» (first ∷ second ∷ []) →
-      (state_of hold before).phase ≡ INACTIVE → Ran hold (raised_for octets) before after q s → InUse hold after →
+      refused_if_up (state_of hold before).phase ≡ None → Ran hold (raised_for octets) before after q s → InUse hold after →
       InUse hold before → FitsTheSender hold before sender first second →
       ((held_by hold after).finished ≡ (held_by hold before).finished ++ filled first ∷ filled second ∷ []) × BackInSearch hold after
-  two_received sender acquisition first second octets before after q s session promise written within inactive ran used_after used fits =
+  two_received sender acquisition first second octets before after q s session over written within raised ran used_after used fits =
       let rules = rules_of (settings_of before) in
       let shown = hold.showing in
       let earlier = events_of_calls used.calls in
       let then = after_events rules shown (made used.over) earlier in
       let later = symbol_events (bits_of octets) in
-      let joined = promise.joined in
-      let here : state_of hold before ≡ then = by_its_events hold before used promise in
+      let joined = (over.promise before).joined in
+      let here : state_of hold before ≡ then = by_its_events hold before used over in
       let got = session.stretch rules shown (parameters sender) acquisition (two_frames first second) used.over earlier later
-      (ap (λ u. u.phase) (sym here) ∙ inactive) (joined.up_called (bits_of octets)) (joined.symbols_called (bits_of octets) ∙ ap bits_of written)
+      (ap (λ u. u.phase) (sym here) ∙ over.was_down before raised) (joined.up_called (bits_of octets)) (joined.symbols_called (bits_of octets) ∙ ap bits_of written)
       (within_more sender.«limit» rules.limit (first ∷ second ∷ []) fits.limits within)
       (subst (λ u. codeblocks_of (first ∷ second ∷ []) ≤ room u.held) here fits.space) in
       let last = after_events rules shown then (carrier_up ∷ later) in
@@ -58,5 +53,5 @@ module _ {X : Type 0} (hold : Ghosts X) where
       got.1.added ∙ ap₂ (λ n l. drop n (then.held.finished ++ l)) none (got.1.filled_frames fits.matches) in
       let clear : Clear (state_of hold after).phase (held_by hold after) = subst (λ u. Clear u.phase u.held) (sym there) got.0 in (
         ap (λ u. u.held.finished) there ∙ finished ∙ ap (λ u. u.held.finished ++ filled first ∷ filled second ∷ []) (sym here),
-        record { state = in_search _ _ clear; none_open = none_open _ _ clear; clear = clear; in_use = used_after },
+        back hold after over used_after clear,
       )

@@ -1,20 +1,23 @@
 -- Frames that are written one behind the other. Assumes nothing.
-use Rattle.std.proofs.Common.{◌≡◌, ℕ, ◌+◌, ◌-◌, ◌≤◌, Bool, true, false, cond, List, [], ◌∷◌, ◌++◌, length, take, drop, Ok, Err, sym, ap, ◌∙◌, subst, append-nil, length-append, length-drop, nat_le, nat_lt, ◌&&◌, arith}
+use Rattle.std.proofs.Common.{◌≡◌, ℕ, ◌+◌, ◌-◌, ◌≤◌, Bool, true, false, cond, List, [], ◌∷◌, ◌++◌, length, take, drop, Ok, Err, sym, ap, ◌∙◌, subst, ap₂, append-nil, length-append, length-drop, nat_le, nat_lt, ◌&&◌, arith, Result}
 use Rattle.std.specs.Int.{is_in_range}
 use Rattle.std.proofs.Math.Seq.{take-append-add, drop-append-add, drop-append_seam}
 use Rattle.std.proofs.lemmas.List.{take-append-le, drop-append-le, take_all, drop_all, length-take-le, length-replicate, drop-drop}
 use borrow.Rule.Slice.PartMut.{post_of}
+use Rattle.refusals.specs.declared.Refusal.{Refusal}
 use Rattle.refusals.specs.declared.Refusal.TheVariants.{MemoryTooShort, IdleLength, CodeblockLimit}
 use Rattle.procedures.specs.declared.Plop.TheVariants.{Two}
 use Rattle.procedures.specs.Stretch.{idle_octet, repeated, sends, idles, stretch_octets}
 use Rattle.procedures.specs.Reception.{FramesWithin}
+use Rattle.session.specs.declared.Settings.{Settings}
 use Rattle.session.specs.declared.Locked.{Locked}
 use Rattle.session.specs.declared.Carrier.{Carrier}
 use Rattle.session.specs.declared.Silent.{Silent}
 use Rattle.session.specs.Writing.{parameters_of, memory_after, idle_answer}
 use Rattle.session.specs.Calls.{MadeWith, locked_with, acquired}
 use Rattle.callers.specs.declared.both_ends.SenderSettings.{SenderSettings}
-use Rattle.callers.specs.BothEnds.{parameters, two_frames, SentInFront, SentBehind, IsStretchInFront}
+use Rattle.callers.specs.BothEnds.{and_then, frame_answer, two_answer, parameters, two_frames, SentInFront, SentBehind, IsStretchInFront}
+use Rattle.callers.proofs.Answered.{acquiring_counts}
 
 module _ (w n k : ℕ) (memory part : List ℕ) (within : w ≤ length memory) (there : n ≤ length part) where
   w_long : length (take w memory) ≡ w
@@ -126,3 +129,26 @@ stretch_in_front sender acquisition acquired sent last first second memory start
           (subst (λ set. FramesWithin set.sender.limit.count (first ∷ [])) locked-is one.fits)
           (subst (λ set. FramesWithin set.sender.limit.count (second ∷ [])) next-is other.fits));
     }
+
+-- what all calls answer together, by what the last one answers
+pub two_answered : (sender : SenderSettings) (acquisition : ℕ) (first second memory start mid : List ℕ) (silent : Silent) (carrier : Carrier) (done : Locked × ℕ) (next : Locked) (sent : ℕ) (answer : Result ℕ Refusal) →
+    MadeWith Two sender.«limit» sender.randomizer sender.idle silent → carrier.settings ≡ silent.settings → Begun carrier memory start done.0 done.1 →
+    Ok done ≡ acquired carrier (idle_answer 16 255 acquisition memory) → length start ≡ length memory → length mid ≡ length start → next.settings ≡ done.0.settings →
+    Ok sent ≡ frame_answer done.0.settings.sender.limit.count (parameters_of done.0.settings) (length start) first done.1 →
+    answer ≡ frame_answer next.settings.sender.limit.count (parameters_of next.settings) (length mid) second sent →
+    answer ≡ two_answer sender acquisition first second memory
+two_answered sender acquisition first second memory start mid silent carrier done next sent answer made raised begins taken-in start-long mid-long same first-answer second-answer =
+    let frame : List ℕ → ℕ → Result ℕ Refusal = frame_answer sender.«limit» (parameters sender) (length memory) in
+    let by-made : (set : Settings) (n : ℕ) (octets : List ℕ) (w : ℕ) → set ≡ silent.settings → n ≡ length memory →
+    frame_answer set.sender.limit.count (parameters_of set) n octets w ≡ frame octets w =
+    λ set n octets w e long.
+    ap (λ s. frame_answer s.sender.limit.count (parameters_of s) n octets w) e
+    ∙ ap₂ (λ l p. frame_answer l p n octets w) (made_limit sender silent made) (made_parameters sender silent made)
+    ∙ ap (λ m. frame_answer sender.«limit» (parameters sender) m octets w) long in
+    let done-is = begins.same ∙ raised in
+    let first-is : Ok sent ≡ frame first done.1 = first-answer ∙ by-made done.0.settings (length start) first done.1 done-is start-long in
+    let second-is : answer ≡ frame second sent = second-answer ∙ by-made next.settings (length mid) second sent (same ∙ done-is) (mid-long ∙ start-long) in
+    second-is
+    ∙ ap (λ r. and_then r (frame second)) first-is
+    ∙ ap (λ r. and_then r (λ w. and_then (frame first w) (frame second))) (acquiring_counts carrier (idle_answer 16 255 acquisition memory) (Ok done) taken-in)
+    ∙ ap (λ r. and_then r (λ _. and_then (idle_answer 16 255 acquisition memory) (λ w. and_then (frame first w) (frame second)))) (sym made.its-limit)

@@ -1,5 +1,9 @@
 -- Two frames from a session in PLOP-2 to a receiver. Assumes nothing.
-use Rattle.std.specs.Prelude.{◌≡◌, ℕ, ◌≤◌, List, [], ◌∷◌, ◌++◌, length, take, drop}
+use Rattle.std.specs.Prelude.{◌≡◌, ℕ, ◌+◌, ◌≤◌, List, [], ◌∷◌, ◌++◌, length, take, drop, cond, nat_lt, Ok, Err, Result}
+use Rattle.refusals.specs.declared.Refusal.{Refusal}
+use Rattle.refusals.specs.declared.Refusal.TheVariants.{FrameLength, MemoryTooShort}
+use Rattle.cltu.specs.Limit.{limit_answer}
+use Rattle.cltu.specs.Writing.{frame_refused}
 use Rattle.bch.specs.Bits.{bits_of}
 use Rattle.reception.specs.Rules.{Event, carrier_up}
 use Rattle.reception.specs.Calls.{symbol_events}
@@ -10,10 +14,10 @@ use Rattle.decoding.specs.Meaning.{rules_of}
 use Rattle.receiver.specs.declared.receiver.Receiver.{Receiver}
 use Rattle.receiver.specs.Meaning.{settings_of, held_by}
 use Rattle.procedures.specs.declared.Plop.TheVariants.{Two}
-use Rattle.procedures.specs.Stretch.{Parameters, Writing, sends, idles, stretch_octets}
+use Rattle.procedures.specs.Stretch.{Parameters, sent_octets, Writing, sends, idles, stretch_octets}
 use Rattle.procedures.specs.Reception.{FramesWithin, codeblocks_of}
 use Rattle.session.specs.declared.Locked.{Locked}
-use Rattle.session.specs.Writing.{parameters_of, GoesOn}
+use Rattle.session.specs.Writing.{parameters_of, idle_answer, GoesOn}
 use Rattle.callers.specs.declared.both_ends.SenderSettings.{SenderSettings}
 
 abbrev pub parameters : SenderSettings → Parameters
@@ -23,7 +27,8 @@ parameters sender = record { plop = Two; randomizer = sender.randomizer; idle = 
 abbrev pub two_frames : (first second : List ℕ) → List Writing
 two_frames first second = sends first ∷ idles 0 ∷ sends second ∷ idles 0 ∷ []
 
--- so many octets in front of the memory are the stretch, whose frames are within the sender's limit, and the rest is as it was
+-- so many octets in front of the memory are the stretch, whose frames are within the sender's limit, and the rest is as
+-- it was
 pub record IsStretchInFront
     (sender : SenderSettings) (acquisition : ℕ) (first second memory now : List ℕ) (octets : ℕ) : Type 0 where
   pub within : octets ≤ length now
@@ -44,18 +49,46 @@ pub record SentInFront (before : Locked) (frame memory now : List ℕ) (after : 
   pub fits : FramesWithin before.settings.sender.limit.count (frame ∷ [])
 
 -- and one behind so many octets that were a stretch: these and it are a stretch
-pub record SentBehind (before : Locked) (frame : List ℕ) (written : ℕ) (memory now : List ℕ) (after : Locked) (count : ℕ) : Type 0 where
+pub record SentBehind
+    (before : Locked) (frame : List ℕ) (written : ℕ) (memory now : List ℕ) (after : Locked) (count : ℕ) : Type 0 where
   pub same : after.settings ≡ before.settings
   pub further : written ≤ count
   pub within : count ≤ length now
   pub stretch : (acquisition : ℕ) (earlier : List Writing) →
       take written memory ≡ stretch_octets (parameters_of before.settings) acquisition earlier →
-      take count now ≡ stretch_octets (parameters_of before.settings) acquisition (earlier ++ sends frame ∷ idles 0 ∷ [])
+      take count now
+      ≡ stretch_octets (parameters_of before.settings) acquisition (earlier ++ sends frame ∷ idles 0 ∷ [])
   pub rest : drop count now ≡ drop count memory
   pub fits : FramesWithin before.settings.sender.limit.count (frame ∷ [])
 
--- a receiver that takes as many codeblocks as the sender sends, over a hold that matches it and has space for both frames
-pub record FitsTheSender {X : Type 0} (hold : Ghosts X) (r : Receiver X) (sender : SenderSettings) (first second : List ℕ) : Type 0 where
+-- a receiver that takes as many codeblocks as the sender sends, over a hold that matches it and has space for both
+-- frames
+pub record FitsTheSender
+    {X : Type 0} (hold : Ghosts X) (r : Receiver X) (sender : SenderSettings) (first second : List ℕ) : Type 0 where
   pub matches : Matches hold.showing sender.randomizer
   pub limits : sender.«limit» ≤ (rules_of (settings_of r)).limit
   pub space : codeblocks_of (first ∷ second ∷ []) ≤ room (held_by hold r)
+
+-- two answers, one behind the other: the first refusal, or what the second counts behind the first
+abbrev pub and_then : Result ℕ Refusal → (ℕ → Result ℕ Refusal) → Result ℕ Refusal
+and_then (Ok count) next = next count
+and_then (Err why) next = Err why
+
+-- a frame behind so many octets of memory that has so many: how many they are with its CLTU and the idle octet behind
+abbrev pub frame_answer : (limit : ℕ) → Parameters → (memory : ℕ) → List ℕ → (written : ℕ) → Result ℕ Refusal
+frame_answer limit settings memory frame written =
+    cond (frame_refused limit (length frame)) (Err FrameLength)
+    (cond (nat_lt memory (written + length (sent_octets settings frame))) (Err MemoryTooShort)
+    (Ok (written + length (sent_octets settings frame))))
+
+-- the making of the session, the acquisition, and the frames in their order
+abbrev pub two_answer : SenderSettings → (acquisition : ℕ) → (first second memory : List ℕ) → Result ℕ Refusal
+two_answer sender acquisition first second memory =
+    let frame = frame_answer sender.«limit» (parameters sender) (length memory) in
+    and_then (limit_answer sender.«limit») (λ _.
+    and_then (idle_answer 16 255 acquisition memory) (λ written. and_then (frame first written) (frame second)))
+
+-- what a call counts that also answers where the session is
+abbrev pub counted : Result (Locked × ℕ) Refusal → Result ℕ Refusal
+counted (Ok done) = Ok done.1
+counted (Err why) = Err why

@@ -31,11 +31,12 @@ module _ {X : Type 0} (hold : Ghosts X) where
   pub record CommandHeard
       (symbols : List Bool) (before after : Receiver X) (queue later : Queue Report) (memory now : List ℕ)
       (answer : Result ℕ Refusal) : Type 0 where
-    pub ran : Ran hold (releases (length (held_by hold before).finished) ++ symbol_events symbols) before after queue later
+    pub ran :
+        Ran hold (releases (length (held_by hold before).finished) ++ symbol_events symbols) before after queue later
     pub copied : answer ≡ copy_answer (held_by hold after).finished memory
     pub memory_after : now ≡ after_copy (held_by hold after).finished memory
 
-  -- symbols that are the CLTU of a frame, within the allowance; the hold matches its sender and has the capacity for it
+  -- symbols that are the CLTU of a frame, within the allowance, for a hold that matches its sender and has the capacity
   pub record IsCommand (r : Receiver X) (frame : List ℕ) (symbols : List Bool) : Type 0 where
     pub octets : AllBelowBase 256 frame
     pub randomizer : Randomizer

@@ -32,4 +32,5 @@ idle_needed r = recovery_bits (rules_of (settings_of r)).mode (rules_of (setting
 -- so many idle bits, with a release in their middle
 abbrev pub idle_around_a_release : Bool → ℕ → List Event
 idle_around_a_release first bits =
-    symbol_events (take (bits / 2) (idle first bits)) ++ ((release ∷ []) ++ symbol_events (drop (bits / 2) (idle first bits)))
+    symbol_events (take (bits / 2) (idle first bits))
+    ++ ((release ∷ []) ++ symbol_events (drop (bits / 2) (idle first bits)))

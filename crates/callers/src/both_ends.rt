@@ -2,12 +2,13 @@ ghost use Rattle.std.specs.Prelude.{◌≡◌, ◌≤◌, [], ◌∷◌, ◌++�
 ghost use Rattle.bch.specs.Bits.{octet_bits, bits_of};
 ghost use Rattle.procedures.specs.Reception.{SessionPromise};
 ghost use Rattle.cltu.specs.Cltu.{filled};
-ghost use Rattle.reception.specs.Calls.{symbol_events};
-ghost use Rattle.receiver.specs.Meaning.{held_by};
+ghost use Rattle.session.specs.Writing.{parameters_of};
+ghost use Rattle.reception.specs.Calls.{symbol_events, refused_if_up, answered};
+ghost use Rattle.receiver.specs.Meaning.{held_by, state_of};
 ghost use Rattle.receiver.specs.Events.{Ran};
 ghost use Rattle.receiver.specs.Joined.{PromiseOverCalls};
 ghost use Rattle.callers.specs.InUse.{InUse, BackInSearch};
-ghost use Rattle.callers.specs.BothEnds.{raised_for, SentInFront, SentBehind, IsStretchInFront, FitsTheSender};
+ghost use Rattle.callers.specs.BothEnds.{raised_for, and_then, frame_answer, two_answer, counted, SentInFront, SentBehind, IsStretchInFront, FitsTheSender};
 
 use hold::Hold;
 use procedures::{IdleOctet, Plop};
@@ -21,7 +22,7 @@ use session::{AfterSending, FrameSpan, Locked, Silent};
 /// How a sending session is made: by PLOP-2, with these.
 #[derive(Clone, Copy)]
 pub struct SenderSettings {
-    /// The greatest count of codeblocks in a CLTU.
+    /// How many codeblocks its CLTUs have at most.
     pub limit: usize,
     /// Whether frames are randomized.
     pub randomizer: Randomizer,
@@ -43,6 +44,8 @@ pub fn send_two<H: Hold>(
     receiver: &mut Receiver<H>,
     reports: &mut Queue<'_, Report>,
 ) -> Result<usize, Refusal>
+    ensures answer { result ≡ and_then (two_answer settings acquisition first.now second.now memory.old)
+        (answered (refused_if_up (state_of H.Hold receiver.old).phase)) }
     ensures written { IfOk result (λ octets.
         IsStretchInFront settings acquisition first.now second.now memory.old memory.new octets) }
     ensures heard { IfOk result (λ octets.
@@ -68,6 +71,7 @@ fn write_two(
     second: &[u8],
     memory: &mut [u8],
 ) -> Result<usize, Refusal>
+    ensures answer { result ≡ two_answer settings acquisition first.now second.now memory.old }
     ensures written { IfOk result (λ octets.
         IsStretchInFront settings acquisition first.now second.now memory.old memory.new octets) }
     ensures promise { IfOk result (λ _. SessionPromise) }
@@ -96,7 +100,10 @@ fn send_behind(
 ) -> Result<(Locked, usize), Refusal>
     requires plop { session.settings.plop ≡ Plop.Two }
     requires within { written ≤ length memory.old }
-    ensures { IfOk result (λ done. SentBehind session frame.now written memory.old memory.new done.0 done.1) }
+    ensures answer { counted result
+        ≡ frame_answer session.settings.sender.limit.count (parameters_of session.settings)
+        (length memory.old) frame.now written }
+    ensures behind { IfOk result (λ done. SentBehind session frame.now written memory.old memory.new done.0 done.1) }
 {
     let (session, sent) = send_frame(session, frame, &mut memory[written..])?;
     Ok((session, written + sent))
@@ -105,7 +112,10 @@ fn send_behind(
 // Writes the CLTU of a frame in PLOP-2, where another may follow.
 fn send_frame(session: Locked, frame: &[u8], memory: &mut [u8]) -> Result<(Locked, usize), Refusal>
     requires { session.settings.plop ≡ Plop.Two }
-    ensures { IfOk result (λ done. SentInFront session frame.now memory.old memory.new done.0 done.1) }
+    ensures answer { counted result
+        ≡ frame_answer session.settings.sender.limit.count (parameters_of session.settings)
+        (length memory.old) frame.now 0 }
+    ensures front { IfOk result (λ done. SentInFront session frame.now memory.old memory.new done.0 done.1) }
 {
     let whole = FrameSpan {
         place: 0,

@@ -23,8 +23,8 @@ pub fn recover<H: Hold>(
 ) -> Result<(), Refusal>
     ensures answer { result ≡ answered (refused_if_down (state_of H.Hold receiver.old).phase) tt }
     ensures memory { OnOk result (memory.new ≡ idle first (length memory.old)) }
-    ensures ran { OnOk result (
-        Ran H.Hold (idle_around_a_release first (length memory.old)) receiver.old receiver.new reports.old reports.new) }
+    ensures ran { OnOk result (let events = idle_around_a_release first (length memory.old) in
+        Ran H.Hold events receiver.old receiver.new reports.old reports.new) }
     ensures back { OnOk result (
         InUse H.Hold receiver.old → idle_needed receiver.old ≤ length memory.old → BackInSearch H.Hold receiver.new) }
     ensures refused { OnErr result (

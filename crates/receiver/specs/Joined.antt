@@ -1,15 +1,18 @@
 -- What a caller needs to put the calls of a receiver together, and to take the promise at any time. Assumes nothing.
-use Rattle.std.specs.Prelude.{◌≡◌, List, [], ◌∷◌, ◌++◌}
+use Rattle.std.specs.Prelude.{◌≡◌, List, [], ◌∷◌, ◌++◌, None}
 use Rattle.hold.specs.declared.Hold.{Ghosts}
 use Rattle.queue.specs.declared.slots.Queue.{Queue}
 use Rattle.reception.specs.declared.Report.{Report}
-use Rattle.reception.specs.Rules.{Event, carrier_up, release}
-use Rattle.reception.specs.Calls.{Call, call_up, call_release, events_in}
+use Rattle.reception.specs.Decoding.{added}
+use Rattle.reception.specs.Rules.{INACTIVE, Event, carrier_up, release}
+use Rattle.reception.specs.Runs.{CarrierIsUp, Clear}
+use Rattle.reception.specs.Calls.{Call, call_up, call_release, refused_if_up, refused_if_down, events_in}
 use Rattle.reception.specs.Promise.{ReceiverPromise}
 use Rattle.decoding.specs.Meaning.{rules_of}
 use Rattle.receiver.specs.declared.receiver.Receiver.{Receiver}
-use Rattle.receiver.specs.Meaning.{settings_of, free_slots}
-use Rattle.receiver.specs.Calls.{free_in, reports_made, Called}
+use Rattle.receiver.specs.declared.receiver_state.ReceiverState.TheVariants.{Search}
+use Rattle.receiver.specs.Meaning.{settings_of, held_by, state_of, free_slots}
+use Rattle.receiver.specs.Calls.{named, free_in, reports_made, Called}
 use Rattle.receiver.specs.Events.{Queued, Ran}
 
 module _ {X : Type 0} (hold : Ghosts X) where
@@ -30,3 +33,10 @@ module _ {X : Type 0} (hold : Ghosts X) where
         Ran hold first before between queue later → Ran hold then between after later last →
         Ran hold (first ++ then) before after queue last
     pub nothing : (r : Receiver X) (queue : Queue Report) → Ran hold [] r r queue queue
+    -- what it was before a call that is not refused, and what its questions answer where it is clear
+    pub was_down : (r : Receiver X) →
+        refused_if_up (state_of hold r).phase ≡ None → (state_of hold r).phase ≡ INACTIVE
+    pub was_up : (r : Receiver X) →
+        refused_if_down (state_of hold r).phase ≡ None → CarrierIsUp (state_of hold r).phase
+    pub clear : (r : Receiver X) → Clear (state_of hold r).phase (held_by hold r) →
+        (named (state_of hold r).phase ≡ Search) × (added (held_by hold r) ≡ 0)

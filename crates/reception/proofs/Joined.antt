@@ -3,8 +3,8 @@ use Rattle.std.proofs.Common.{◌≡◌, ℕ, zero, suc, ◌+◌, List, [], ◌�
 use Rattle.std.proofs.Math.Seq.{drop-nil}
 use Rattle.hold.specs.Candidates.{Candidate, Showing, after_release}
 use Rattle.reception.specs.Decoding.{Settings, Held}
-use Rattle.reception.specs.Rules.{State, state, Event, carrier_up, carrier_down, symbol, release, at_event}
-use Rattle.reception.specs.Runs.{after_events, symbols_in, CarrierStaysUp}
+use Rattle.reception.specs.Rules.{Phase, INACTIVE, SEARCH, DECODE, State, state, Event, carrier_up, carrier_down, symbol, release, at_event}
+use Rattle.reception.specs.Runs.{after_events, symbols_in, CarrierStaysUp, Clear}
 use Rattle.reception.specs.Calls.{symbol_events}
 use Rattle.reception.specs.Finished.{releases_accepted}
 use Rattle.reception.specs.Gaps.{CarrierStaysDown}
@@ -47,6 +47,11 @@ up_called (b ∷ bits) = up_called bits
 abbrev with_finished : List Candidate → Held → Held
 with_finished finished h = record { capacity = h.capacity; finished = finished; opened = h.opened }
 
+still_clear : (p : Phase) (h : Held) (finished : List Candidate) → Clear p h → Clear p (with_finished finished h)
+still_clear INACTIVE h finished clear = absurd clear
+still_clear (SEARCH count window) h finished clear = clear
+still_clear (DECODE r) h finished clear = absurd clear
+
 rest : (count : ℕ) (finished : List Candidate) → drop count (after_release finished) ≡ drop (suc count) finished
 rest count [] = drop-nil count
 rest count (candidate ∷ more) = refl
@@ -80,4 +85,5 @@ module _ (settings : Settings) (showing : Showing) where
         symbols_joined = symbols_joined;
         none_released = λ s bits. none_released bits s;
         released = λ s count. released count s;
+        stays_clear = λ s count clear. still_clear s.phase s.held (drop count s.held.finished) clear;
       }

@@ -3,7 +3,7 @@ use Rattle.std.specs.Prelude.{◌≡◌, ℕ, ◌+◌, Bool, List, ◌++◌, dro
 use Rattle.hold.specs.Candidates.{Showing}
 use Rattle.reception.specs.Decoding.{Settings}
 use Rattle.reception.specs.Rules.{State, state, Event, release}
-use Rattle.reception.specs.Runs.{after_events, reports_of, symbols_in, CarrierStaysUp}
+use Rattle.reception.specs.Runs.{after_events, reports_of, symbols_in, CarrierStaysUp, Clear}
 use Rattle.reception.specs.Calls.{symbol_events}
 use Rattle.reception.specs.Finished.{new_candidates, releases_accepted}
 use Rattle.reception.specs.Gaps.{CarrierStaysDown}
@@ -43,3 +43,6 @@ pub record RunsAreJoined (settings : Settings) (showing : Showing) : Type 0 wher
   -- releases, one behind the other, take as many of the oldest and change nothing else
   pub released : (s : State) (count : ℕ) →
       after_events settings showing s (replicate count release) ≡ without_oldest count s
+  -- so a receiver that is clear stays so
+  pub stays_clear : (s : State) (count : ℕ) →
+      Clear s.phase s.held → Clear (without_oldest count s).phase (without_oldest count s).held

@@ -23,5 +23,5 @@ returns-clause-received g c back frame command enough =
     let ran = runs.joined _ _ c.args.receiver.now c.release_all.new.receiver c.symbols.new.self c.args.reports.now c.args.reports.now c.symbols.new.reports released
     (heard hold c.args.symbols.now _ _ _ c.args.reports.now _ runs (map-id _) c.symbols.ensures.after c.symbols.ensures.queued) in
     let used = used_on hold _ _ _ c.symbols.ensures.after (c.release_all.ensures.in_use back.in_use) in
-    let received = commanded hold frame c.args.symbols.now c.args.receiver.now c.symbols.new.self _ _ (runs.promise c.args.receiver.now) back command ran used in
+    let received = commanded hold frame c.args.symbols.now c.args.receiver.now c.symbols.new.self _ _ runs back command ran used in
     (copied_in_front frame _ _ _ _ received.0 enough c.copy_oldest.ensures.answer c.copy_oldest.ensures.memory, received.1)

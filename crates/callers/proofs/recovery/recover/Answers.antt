@@ -1,7 +1,7 @@
 -- Idle with a release in its middle. Assumes nothing.
 use Rattle.std.proofs.Common.{◌/◌, length, take, drop, ap, ◌∙◌}
 use Rattle.std.proofs.lemmas.List.{map-id}
-use Rattle.callers.proofs.Used.{up_if_accepted, used_on, heard}
+use Rattle.callers.proofs.Used.{accepted, used_on, heard}
 use Rattle.callers.proofs.Recovered.{around_a_release, back_in_search}
 use Rattle.callers.proofs.recovery.recover.Goals as goal
 
@@ -23,4 +23,4 @@ returns-clause-back g c used enough =
     let runs = c.symbols.ensures.over_calls in
     let after = used_on hold _ _ _ c.symbols-2.ensures.after (used_on hold _ _ _ c.release.ensures.after (used_on hold _ _ _ c.symbols.ensures.after used)) in
     back_in_search hold c.args.first (length c.args.memory.now) c.args.receiver.now c.symbols-2.new.self c.args.reports.now c.symbols-2.new.reports
-    (runs.promise c.args.receiver.now) (returns-clause-ran g c) (up_if_accepted _ _ c.in_ok-carrier_is_up.ensures) after used enough
+    runs (returns-clause-ran g c) (runs.was_up c.args.receiver.now (accepted _ _ c.in_ok-carrier_is_up.ensures)) after used enough
