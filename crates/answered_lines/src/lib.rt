@@ -28,7 +28,8 @@ pub fn print_answers<A: Answering, R: Read, W: Write>(
 ) -> anyhow::Result<()>
 where
     A: Drop,
-    ensures { OnOk result (PrintsAll (A.meaning answering) (R.remaining input.old) (R.remaining input.new) (W.contents output.old) (W.contents output.new)) }
+    ensures { OnOk result (PrintsAll (A.meaning answering) (R.remaining input.old) (R.remaining input.new)
+        (W.contents output.old) (W.contents output.new)) }
 {
     let mut lines = AnsweredLines::new(heap, answering);
     let mut piece = vec![in heap; 0u8; PIECE]?;
