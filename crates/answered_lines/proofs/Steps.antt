@@ -1,15 +1,13 @@
 -- What lines have taken, an octet later and at the end. Assumes nothing.
-use Rattle.std.proofs.Common.{◌≡◌, ◌≢◌, ℕ, ◌+◌, List, [], ◌∷◌, ◌++◌, length, refl, sym, ap, subst, ◌∙◌, append_assoc, append-nil, length-append, arith, add-zero}
-use Rattle.std.specs.List.{flat_map, sum_by}
+use Rattle.std.proofs.Common.{◌≡◌, ℕ, ◌+◌, List, [], ◌∷◌, ◌++◌, length, refl, sym, ap, subst, ◌∙◌, append_assoc, append-nil, length-append, arith}
 use Rattle.std.proofs.lemmas.Grind.{flat_map-append}
 use Rattle.std.proofs.lemmas.List.Sums.{sum_by-append}
 use Rattle.hexadecimal.specs.declared.digit_reader.DigitReader.{DigitReader}
-use Rattle.hexadecimal.specs.Reading.{HasRead, most_kept}
+use Rattle.hexadecimal.specs.Reading.{HasRead}
 use Rattle.answered_lines.specs.Meaning.{Meaning}
 use Rattle.answered_lines.specs.Lines.{lines_of}
 use Rattle.answered_lines.specs.Printed.{line_text, line_count, answers, counted, end_line, printed}
-use Rattle.answered_lines.specs.declared.lines.Last.{Last}
-use Rattle.answered_lines.specs.declared.lines.Last.TheVariants.{Newline, CarriageReturn, Other}
+use Rattle.answered_lines.specs.declared.lines.Last.TheVariants.{Newline}
 use Rattle.answered_lines.specs.declared.lines.AnsweredLines.{AnsweredLines}
 use Rattle.answered_lines.specs.Taken.{waiting, NoNewline, CameLast, Reads, HasTaken, IsDone, AnswersLine}
 use Rattle.answered_lines.proofs.LinesOf.{newline_ends, no_newline_append, open_lines, ends}

@@ -9,9 +9,8 @@ mod answering;
 mod lines;
 
 pub use answering::{Answer, Answering};
-pub use lines::{AnsweredLines, LinesError};
-
 use anyhow::anyhow;
+pub use lines::{AnsweredLines, LinesError};
 use std::alloc::Global;
 use std::io::{ErrorKind, Read, Write};
 

@@ -60,12 +60,7 @@ impl<A: Answering> AnsweredLines<A> {
     }
 
     /// Takes further octets of the input, and writes the answers of the lines that end in them behind the text.
-    pub fn take(
-        &mut self,
-        heap: Global,
-        octets: &[u8],
-        text: &mut String,
-    ) -> Result<(), LinesError>
+    pub fn take(&mut self, heap: Global, octets: &[u8], text: &mut String) -> Result<(), LinesError>
         ensures answering { answering_of self.new ≡ answering_of self.old }
         ensures taken { OnOk result (Takes A.meaning self.old self.new octets.now
             (string_bytes text.old) (string_bytes text.new)) }
@@ -89,12 +84,7 @@ impl<A: Answering> AnsweredLines<A> {
     }
 
     // Takes one octet.
-    fn take_octet(
-        &mut self,
-        heap: Global,
-        octet: u8,
-        text: &mut String,
-    ) -> Result<(), LinesError>
+    fn take_octet(&mut self, heap: Global, octet: u8, text: &mut String) -> Result<(), LinesError>
         ensures answering { self.new.answering ≡ self.old.answering }
         ensures taken { OnOk result (Takes A.meaning self.old self.new (octet ∷ [])
             (string_bytes text.old) (string_bytes text.new)) }

@@ -1,11 +1,10 @@
 -- Frames that are too long are answered alike. Assumes nothing.
-use Rattle.std.proofs.Common.{◌≡◌, ℕ, suc, ◌≤◌, ◌<◌, Bool, true, false, cond, List, ◌++◌, length, take, Result, Ok, Err, codes, refl, sym, ap, ◌∙◌, nat_lt, arith}
+use Rattle.std.proofs.Common.{◌≡◌, ℕ, ◌<◌, Bool, true, false, cond, List, ◌++◌, length, take, Result, Ok, Err, codes, refl, sym, ap, ◌∙◌, nat_lt, arith}
 use Rattle.std.proofs.lemmas.List.{take_all, length-take-le}
 use Rattle.std.proofs.lemmas.Bool.Decides.{nat_tests}
 use Rattle.refusals.specs.declared.Refusal.{Refusal}
 use Rattle.refusals.specs.declared.Refusal.TheVariants.{FrameLength}
 use Rattle.cltu.specs.declared.Sender.{Sender}
-use Rattle.cltu.specs.Cltu.{longest_frame}
 use Rattle.cltu.specs.Writing.{frame_refused, length_answer, cltu_octets}
 use Rattle.answered_lines.specs.Meaning.{FurtherOctetsChangeNothing}
 use Rattle.encode_lines.specs.Lines.{frame_line, cltus, encode_meaning}

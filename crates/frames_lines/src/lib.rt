@@ -121,7 +121,10 @@ mod tests {
         let mut written = Vec::new(rt.alloc());
         print_answers(rt.alloc(), FramesLines, &mut whole, &mut written)?;
         assert_eq!(rt; written.as_slice(), text.as_bytes());
-        let mut drops = Drops { octets, breaks: false };
+        let mut drops = Drops {
+            octets,
+            breaks: false,
+        };
         let mut written = Vec::new(rt.alloc());
         print_answers(rt.alloc(), FramesLines, &mut drops, &mut written)?;
         assert_eq!(rt; written.as_slice(), text.as_bytes());
@@ -130,7 +133,10 @@ mod tests {
 
     #[test]
     fn no_end_behind_an_error(rt: HostRuntime) -> Result<(), Fail> {
-        let mut drops = Drops { octets: b"G\n55", breaks: true };
+        let mut drops = Drops {
+            octets: b"G\n55",
+            breaks: true,
+        };
         let mut written = Vec::new(rt.alloc());
         assert!(rt; print_answers(rt.alloc(), FramesLines, &mut drops, &mut written).is_err());
         assert_eq!(rt; written.as_slice(), b"unreadable\n".as_slice());
@@ -139,19 +145,13 @@ mod tests {
 
     #[test]
     fn items_and_refusals(rt: HostRuntime) -> Result<(), Fail> {
-        let answer = FramesLines.answer(
-            rt.alloc(),
-            &[0, 1, 0, 4, 0xAB, 0, 1, 0, 4, 0, 0x55],
-        )?;
+        let answer = FramesLines.answer(rt.alloc(), &[0, 1, 0, 4, 0xAB, 0, 1, 0, 4, 0, 0x55])?;
         assert_eq!(rt;
             answer.text.as_str(),
             "frame 0 5 00010004AB\nframe 5 5 0001000400\nfill 10 1\n"
         );
         assert_eq!(rt; answer.counted, 2);
-        let answer = FramesLines.answer(
-            rt.alloc(),
-            &[0, 1, 0, 4, 0, 0, 1, 0, 7, 0, 0, 0],
-        )?;
+        let answer = FramesLines.answer(rt.alloc(), &[0, 1, 0, 4, 0, 0, 1, 0, 7, 0, 0, 0])?;
         assert_eq!(rt; answer.text.as_str(), "frame 0 5 0001000400\nrefused 9 5\n");
         assert_eq!(rt; answer.counted, 1);
         Ok(())

@@ -1,5 +1,5 @@
 -- The answer of what is kept is the answer of the line. Assumes nothing.
-use Rattle.std.proofs.Common.{◌≡◌, ◌++◌, Some, None, refl, sym, ap, ◌∙◌, string_bytes}
+use Rattle.std.proofs.Common.{◌++◌, sym, ap, ◌∙◌, string_bytes}
 use Rattle.std.specs.Option.{option_map, option_copied}
 use Rattle.hexadecimal.specs.Text.{octets_written}
 use Rattle.hexadecimal.specs.Kept.{kept}
