@@ -1,15 +1,13 @@
 -- What lines have taken, an octet later and at the end. Assumes nothing.
-use Rattle.std.proofs.Common.{◌≡◌, ◌≢◌, ℕ, ◌+◌, List, [], ◌∷◌, ◌++◌, length, refl, sym, ap, subst, ◌∙◌, append_assoc, append-nil, length-append, arith, add-zero}
-use Rattle.std.specs.List.{flat_map, sum_by}
+use Rattle.std.proofs.Common.{◌≡◌, ℕ, ◌+◌, List, [], ◌∷◌, ◌++◌, length, refl, sym, ap, subst, ◌∙◌, append_assoc, append-nil, length-append, arith}
 use Rattle.std.proofs.lemmas.Grind.{flat_map-append}
 use Rattle.std.proofs.lemmas.List.Sums.{sum_by-append}
 use Rattle.hexadecimal.specs.declared.digit_reader.DigitReader.{DigitReader}
-use Rattle.hexadecimal.specs.Reading.{HasRead, most_kept}
+use Rattle.hexadecimal.specs.Reading.{HasRead}
 use Rattle.answered_lines.specs.Meaning.{Meaning}
 use Rattle.answered_lines.specs.Lines.{lines_of}
 use Rattle.answered_lines.specs.Printed.{line_text, line_count, answers, counted, end_line, printed}
-use Rattle.answered_lines.specs.declared.lines.Last.{Last}
-use Rattle.answered_lines.specs.declared.lines.Last.TheVariants.{Newline, CarriageReturn, Other}
+use Rattle.answered_lines.specs.declared.lines.Last.TheVariants.{Newline}
 use Rattle.answered_lines.specs.declared.lines.AnsweredLines.{AnsweredLines}
 use Rattle.answered_lines.specs.Taken.{waiting, NoNewline, CameLast, Reads, HasTaken, IsDone, AnswersLine}
 use Rattle.answered_lines.proofs.LinesOf.{newline_ends, no_newline_append, open_lines, ends}
@@ -32,7 +30,7 @@ reads_on more further a b c first second =
 module _ {A : Type 0} (meaning_of : A → Meaning) (before after : AnsweredLines A) (octets text : List ℕ) (taken : HasTaken meaning_of before octets text) where
   -- a newline comes, and the open line is answered
   pub newline_taken : (same : after.answering ≡ before.answering) (text_after : List ℕ)
-      → AnswersLine (meaning_of before.answering) taken.line before after text text_after → HasTaken meaning_of after (octets ++ 10 ∷ []) text_after
+      → AnswersLine meaning_of before after taken.line text text_after → HasTaken meaning_of after (octets ++ 10 ∷ []) text_after
   newline_taken same text_after is =
       let meaning = meaning_of before.answering in
       let same_meaning : meaning_of after.answering ≡ meaning = ap meaning_of same in
@@ -51,7 +49,7 @@ module _ {A : Type 0} (meaning_of : A → Meaning) (before after : AnsweredLines
         lines_are = is.lines_more ∙ ap (λ n. n + 1) taken.lines_are ∙ sym (length_more taken.done taken.line);
         counted_are = is.counted_more ∙ ap (λ n. n + line_count meaning taken.line) taken.counted_are ∙ sym (counted_more meaning taken.done taken.line)
             ∙ ap (λ m. counted m (taken.done ++ taken.line ∷ [])) (sym same_meaning);
-        text_is = is.text ∙ ap (λ t. t ++ line_text meaning taken.line) taken.text_is ∙ sym (answers_more meaning taken.done taken.line)
+        text_is = is.written ∙ ap (λ t. t ++ line_text meaning taken.line) taken.text_is ∙ sym (answers_more meaning taken.done taken.line)
             ∙ ap (λ m. answers m (taken.done ++ taken.line ∷ [])) (sym same_meaning);
       }
 
@@ -96,7 +94,7 @@ module _ {A : Type 0} (meaning_of : A → Meaning) (before after : AnsweredLines
 
   -- or the open line is answered
   pub done_now : (reader : DigitReader) (text_after : List ℕ) → open_lines before.last taken.line ≡ (taken.line ++ waiting before.last) ∷ [] → after.answering ≡ before.answering
-      → AnswersLine (meaning_of before.answering) (taken.line ++ waiting before.last) (record before { reader = reader }) after text text_after → IsDone meaning_of after octets text_after
+      → AnswersLine meaning_of (record before { reader = reader }) after (taken.line ++ waiting before.last) text text_after → IsDone meaning_of after octets text_after
   done_now reader text_after opened same is =
       let meaning = meaning_of before.answering in
       let same_meaning : meaning_of after.answering ≡ meaning = ap meaning_of same in
@@ -106,7 +104,7 @@ module _ {A : Type 0} (meaning_of : A → Meaning) (before after : AnsweredLines
         lines_are = is.lines_more ∙ ap (λ n. n + 1) taken.lines_are ∙ sym (length_more taken.done whole) ∙ ap length (sym lines);
         counted_are = is.counted_more ∙ ap (λ n. n + line_count meaning whole) taken.counted_are ∙ sym (counted_more meaning taken.done whole)
             ∙ ap (counted meaning) (sym lines) ∙ ap (λ m. counted m (lines_of octets)) (sym same_meaning);
-        text_is = is.text ∙ ap (λ t. t ++ line_text meaning whole) taken.text_is ∙ sym (answers_more meaning taken.done whole)
+        text_is = is.written ∙ ap (λ t. t ++ line_text meaning whole) taken.text_is ∙ sym (answers_more meaning taken.done whole)
             ∙ ap (answers meaning) (sym lines) ∙ ap (λ m. answers m (lines_of octets)) (sym same_meaning);
       }
 
@@ -120,11 +118,11 @@ printed_is meaning_of after octets text done =
     ∙ ap (λ n. answers meaning lines ++ end_line (length lines) n) done.counted_are
 
 -- an answer that is written behind a text is also written behind one that came before that
-pub answered_behind : {A : Type 0} (meaning : Meaning) (line : List ℕ) (a b : AnsweredLines A) (front text text_after : List ℕ)
-    → AnswersLine meaning line a b text text_after → AnswersLine meaning line a b (front ++ text) (front ++ text_after)
-answered_behind meaning line a b front text text_after is =
+pub answered_behind : {A : Type 0} (meaning_of : A → Meaning) (a b : AnsweredLines A) (line front text text_after : List ℕ)
+    → AnswersLine meaning_of a b line text text_after → AnswersLine meaning_of a b line (front ++ text) (front ++ text_after)
+answered_behind meaning_of a b line front text text_after is =
     record {
-      text = ap (λ t. front ++ t) is.text ∙ sym (append_assoc front text (line_text meaning line));
+      written = ap (λ t. front ++ t) is.written ∙ sym (append_assoc front text (line_text (meaning_of a.answering) line));
       lines_more = is.lines_more;
       counted_more = is.counted_more;
       last = is.last;

@@ -11,9 +11,13 @@ abbrev pub in_first_line : ℕ → List (List ℕ) → List (List ℕ)
 in_first_line x [] = (x ∷ []) ∷ []
 in_first_line x (line ∷ lines) = (x ∷ line) ∷ lines
 
--- an octet in front of lines: a newline ends a line; a carriage return before a newline is of the line's end; any other is of the line
+-- an octet in front of lines: a newline ends a line; a carriage return before a newline is of the line's end; any other
+-- octet is of the line
 abbrev pub in_front : ℕ → Bool → List (List ℕ) → List (List ℕ)
-in_front x before_newline lines = cond (x == 10) ([] ∷ lines) (cond (x == 13 && before_newline) lines (in_first_line x lines))
+in_front x before_newline lines =
+    cond (x == 10) ([] ∷ lines)
+    (cond (x == 13 && before_newline) lines
+    (in_first_line x lines))
 
 -- the lines, each without its end; the last may lack its end, and no line comes behind the last newline
 abbrev pub lines_of : List ℕ → List (List ℕ)

@@ -2,7 +2,8 @@
 use Rattle.std.specs.Prelude.{◌≡◌, ℕ, List, Option}
 use Rattle.hexadecimal.specs.Kept.{kept}
 
--- the text that octets are answered by, how many of what the program counts are in it, and of how many octets notice is taken
+-- the text that octets are answered by, how many of what the program counts are in it, and of how many octets notice is
+-- taken, or of all
 pub record Meaning : Type 0 where
   pub text : List ℕ → List ℕ
   pub count : List ℕ → ℕ

@@ -5,7 +5,7 @@ use Rattle.hexadecimal.specs.declared.digit_reader.DigitReader.{DigitReader}
 use Rattle.hexadecimal.specs.Reading.{HasRead, most_kept}
 use Rattle.answered_lines.specs.Meaning.{Meaning}
 use Rattle.answered_lines.specs.Lines.{lines_of}
-use Rattle.answered_lines.specs.Printed.{line_text, line_count, answers, counted}
+use Rattle.answered_lines.specs.Printed.{line_text, line_count, answers, counted, printed}
 use Rattle.answered_lines.specs.declared.lines.Last.{Last}
 use Rattle.answered_lines.specs.declared.lines.Last.TheVariants.{Newline, CarriageReturn, Other}
 use Rattle.answered_lines.specs.declared.lines.AnsweredLines.{AnsweredLines}
@@ -34,11 +34,13 @@ abbrev pub answering_of : {A : Type 0} → AnsweredLines A → A
 answering_of taking = taking.answering
 
 module _ {A : Type 0} (meaning_of : A → Meaning) (taking : AnsweredLines A) (octets text : List ℕ) where
-  -- these octets have come: the lines that end in them are done and answered by this text, and what stands behind them is the open line
+  -- these octets have come: the lines that end in them are done and answered by this text, and what stands behind them
+  -- is of the open line
   pub record HasTaken : Type 0 where
     pub done : List (List ℕ)
     pub line : List ℕ
-    pub splits : (further : List ℕ) → lines_of (octets ++ further) ≡ done ++ lines_of ((line ++ waiting taking.last) ++ further)
+    pub splits : (further : List ℕ)
+        → lines_of (octets ++ further) ≡ done ++ lines_of ((line ++ waiting taking.last) ++ further)
     pub no_newline : NoNewline line
     pub came_last : CameLast taking.last line
     pub has_read : HasRead taking.reader line
@@ -54,15 +56,47 @@ module _ {A : Type 0} (meaning_of : A → Meaning) (taking : AnsweredLines A) (o
     pub text_is : text ≡ answers (meaning_of taking.answering) (lines_of octets)
 
 -- the answer of a line is written behind a text, and counts so many
-pub record TellsLine (meaning : Meaning) (line before after : List ℕ) (count : ℕ) : Type 0 where
-  pub text : after ≡ before ++ line_text meaning line
+pub record TellsLine (meaning : Meaning) (line text text_after : List ℕ) (count : ℕ) : Type 0 where
+  pub written : text_after ≡ text ++ line_text meaning line
   pub count_is : count ≡ line_count meaning line
 
--- a line is answered and counted, and none is open
-pub record AnswersLine {A : Type 0} (meaning : Meaning) (line : List ℕ) (before after : AnsweredLines A) (text_before text_after : List ℕ) : Type 0 where
-  pub text : text_after ≡ text_before ++ line_text meaning line
-  pub lines_more : after.lines ≡ before.lines + 1
-  pub counted_more : after.counted ≡ before.counted + line_count meaning line
-  pub last : after.last ≡ Newline
-  pub has_read : HasRead after.reader []
-  pub most : most_kept after.reader ≡ most_kept before.reader
+module _ {A : Type 0} (meaning_of : A → Meaning) (before after : AnsweredLines A) where
+  -- a line is answered and counted, and none is open
+  pub record AnswersLine (line text text_after : List ℕ) : Type 0 where
+    pub written : text_after ≡ text ++ line_text (meaning_of before.answering) line
+    pub lines_more : after.lines ≡ before.lines + 1
+    pub counted_more : after.counted ≡ before.counted + line_count (meaning_of before.answering) line
+    pub last : after.last ≡ Newline
+    pub has_read : HasRead after.reader []
+    pub most : most_kept after.reader ≡ most_kept before.reader
+
+  -- further octets come, whatever came before them, and behind its text the answers of the lines that end in them
+  abbrev pub Takes : (further text text_after : List ℕ) → Type 0
+  Takes further text text_after =
+      (octets front : List ℕ) → HasTaken meaning_of before octets (front ++ text)
+      → HasTaken meaning_of after (octets ++ further) (front ++ text_after)
+
+  -- what is read is answered as a line
+  abbrev pub AnswersWhatIsRead : (text text_after : List ℕ) → Type 0
+  AnswersWhatIsRead text text_after =
+      (line : List ℕ) → HasRead before.reader line → most_kept before.reader ≡ (meaning_of before.answering).most
+      → AnswersLine line text text_after
+
+module _ {A : Type 0} (meaning_of : A → Meaning) (taking : AnsweredLines A) where
+  -- the answer of what is read is written, and counts so many
+  abbrev pub TellsWhatIsRead : (text text_after : List ℕ) (count : ℕ) → Type 0
+  TellsWhatIsRead text text_after count =
+      (line : List ℕ) → HasRead taking.reader line → most_kept taking.reader ≡ (meaning_of taking.answering).most
+      → TellsLine (meaning_of taking.answering) line text text_after count
+
+  -- nothing comes any more, whatever came: behind its text stand the answers of its lines
+  abbrev pub EndsWith : (after : AnsweredLines A) (text text_after : List ℕ) → Type 0
+  EndsWith after text text_after =
+      (octets front : List ℕ) → HasTaken meaning_of taking octets (front ++ text)
+      → IsDone meaning_of after octets (front ++ text_after)
+
+  -- and the line for the end: all is printed
+  abbrev pub PrintsToTheEnd : (text text_after : List ℕ) → Type 0
+  PrintsToTheEnd text text_after =
+      (octets front : List ℕ) → HasTaken meaning_of taking octets (front ++ text)
+      → front ++ text_after ≡ printed (meaning_of taking.answering) octets

@@ -9,9 +9,8 @@ mod answering;
 mod lines;
 
 pub use answering::{Answer, Answering};
-pub use lines::{AnsweredLines, LinesError};
-
 use anyhow::anyhow;
+pub use lines::{AnsweredLines, LinesError};
 use std::alloc::Global;
 use std::io::{ErrorKind, Read, Write};
 
@@ -28,7 +27,8 @@ pub fn print_answers<A: Answering, R: Read, W: Write>(
 ) -> anyhow::Result<()>
 where
     A: Drop,
-    ensures { OnOk result (PrintsAll (A.meaning answering) (R.remaining input.old) (R.remaining input.new) (W.contents output.old) (W.contents output.new)) }
+    ensures { OnOk result (PrintsAll (A.meaning answering) (R.remaining input.old) (R.remaining input.new)
+        (W.contents output.old) (W.contents output.new)) }
 {
     let mut lines = AnsweredLines::new(heap, answering);
     let mut piece = vec![in heap; 0u8; PIECE]?;

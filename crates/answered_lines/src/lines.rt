@@ -1,9 +1,8 @@
 //! The lines of an input, answered one after the other.
 
-ghost use Rattle.std.specs.Prelude.{◌≡◌, ℕ, List, [], ◌∷◌, ◌++◌, IfOk, OnOk, string_bytes};
-ghost use Rattle.hexadecimal.specs.Reading.{HasRead, most_kept};
-ghost use Rattle.answered_lines.specs.Printed.{end_line, printed};
-ghost use Rattle.answered_lines.specs.Taken.{waiting, answering_of, Reads, HasTaken, TellsLine, AnswersLine, IsDone};
+ghost use Rattle.std.specs.Prelude.{◌≡◌, [], ◌∷◌, ◌++◌, IfOk, OnOk, string_bytes};
+ghost use Rattle.answered_lines.specs.Printed.{end_line};
+ghost use Rattle.answered_lines.specs.Taken.{waiting, answering_of, Reads, HasTaken, Takes, AnswersWhatIsRead, TellsWhatIsRead, EndsWith, PrintsToTheEnd};
 
 use crate::Answering;
 use hexadecimal::DigitReader;
@@ -61,15 +60,10 @@ impl<A: Answering> AnsweredLines<A> {
     }
 
     /// Takes further octets of the input, and writes the answers of the lines that end in them behind the text.
-    pub fn take(
-        &mut self,
-        heap: Global,
-        octets: &[u8],
-        text: &mut String,
-    ) -> Result<(), LinesError>
+    pub fn take(&mut self, heap: Global, octets: &[u8], text: &mut String) -> Result<(), LinesError>
         ensures answering { answering_of self.new ≡ answering_of self.old }
-        ensures taken { OnOk result ((taken before : List ℕ) → HasTaken A.meaning self.old taken (before ++ string_bytes text.old)
-            → HasTaken A.meaning self.new (taken ++ octets.now) (before ++ string_bytes text.new)) }
+        ensures taken { OnOk result (Takes A.meaning self.old self.new octets.now
+            (string_bytes text.old) (string_bytes text.new)) }
     {
         for octet in octets {
             self.take_octet(heap, *octet, text)?;
@@ -82,8 +76,7 @@ impl<A: Answering> AnsweredLines<A> {
     pub fn end(mut self, heap: Global, text: &mut String) -> Result<(), LinesError>
     where
         A: Drop,
-        ensures { OnOk result ((taken before : List ℕ) → HasTaken A.meaning self taken (before ++ string_bytes text.old)
-            → before ++ string_bytes text.new ≡ printed (A.meaning (answering_of self)) taken) }
+        ensures { OnOk result (PrintsToTheEnd A.meaning self (string_bytes text.old) (string_bytes text.new)) }
     {
         self.end_last_line(heap, text)?;
         write_end(self.lines, self.counted, text)?;
@@ -91,15 +84,10 @@ impl<A: Answering> AnsweredLines<A> {
     }
 
     // Takes one octet.
-    fn take_octet(
-        &mut self,
-        heap: Global,
-        octet: u8,
-        text: &mut String,
-    ) -> Result<(), LinesError>
+    fn take_octet(&mut self, heap: Global, octet: u8, text: &mut String) -> Result<(), LinesError>
         ensures answering { self.new.answering ≡ self.old.answering }
-        ensures taken { OnOk result ((taken before : List ℕ) → HasTaken A.meaning self.old taken (before ++ string_bytes text.old)
-            → HasTaken A.meaning self.new (taken ++ octet ∷ []) (before ++ string_bytes text.new)) }
+        ensures taken { OnOk result (Takes A.meaning self.old self.new (octet ∷ [])
+            (string_bytes text.old) (string_bytes text.new)) }
     {
         if octet == b'\n' {
             self.end_line(heap, text)?;
@@ -129,8 +117,8 @@ impl<A: Answering> AnsweredLines<A> {
     // Answers what is read as a line, and opens none.
     fn end_line(&mut self, heap: Global, text: &mut String) -> Result<(), LinesError>
         ensures answering { self.new.answering ≡ self.old.answering }
-        ensures line { OnOk result ((line : List ℕ) → HasRead self.old.reader line → most_kept self.old.reader ≡ (A.meaning self.old.answering).most
-            → AnswersLine (A.meaning self.old.answering) line self.old self.new (string_bytes text.old) (string_bytes text.new)) }
+        ensures line { OnOk result (AnswersWhatIsRead A.meaning self.old self.new
+            (string_bytes text.old) (string_bytes text.new)) }
     {
         let counted = self.write_answer(heap, text)?;
         self.lines = self.lines.checked_add(1).ok_or(LinesError::Count)?;
@@ -145,8 +133,7 @@ impl<A: Answering> AnsweredLines<A> {
 
     // Writes the answer to what is read, and tells what it counts.
     fn write_answer(&self, heap: Global, text: &mut String) -> Result<usize, AllocError>
-        ensures { IfOk result (λ count. (line : List ℕ) → HasRead self.now.reader line → most_kept self.now.reader ≡ (A.meaning self.now.answering).most
-            → TellsLine (A.meaning self.now.answering) line (string_bytes text.old) (string_bytes text.new) count) }
+        ensures { IfOk result (TellsWhatIsRead A.meaning self.now (string_bytes text.old) (string_bytes text.new)) }
     {
         match self.reader.octets() {
             Some(octets) => {
@@ -164,8 +151,8 @@ impl<A: Answering> AnsweredLines<A> {
     // Answers the line that is open, if one is.
     fn end_last_line(&mut self, heap: Global, text: &mut String) -> Result<(), LinesError>
         ensures answering { self.new.answering ≡ self.old.answering }
-        ensures done { OnOk result ((taken before : List ℕ) → HasTaken A.meaning self.old taken (before ++ string_bytes text.old)
-            → IsDone A.meaning self.new taken (before ++ string_bytes text.new)) }
+        ensures done { OnOk result (EndsWith A.meaning self.old self.new
+            (string_bytes text.old) (string_bytes text.new)) }
     {
         if let Last::Newline = self.last {
             return Ok(());

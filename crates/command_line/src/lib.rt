@@ -1,15 +1,19 @@
 //! What the programs share: the one argument that each may have, and how a run of one ends.
 #![tactic(auto)]
 
-ghost use Rattle.std.specs.Prelude.{◌≡◌, Result, Some, map, string_bytes, IfOk, MatchResult};
+ghost use Rattle.std.specs.Prelude.{◌≡◌, Result, Some, drop, map, string_bytes, IfOk, MatchResult};
+ghost use Rattle.std.specs.Vec.Iter.{into_iter_items};
 ghost use Rattle.std.specs.Process.{exit_status};
 ghost use Rattle.command_line.specs.Arguments.{error_text};
 ghost use Rattle.command_line.specs.Asked.{Asks, EndsWith, Ends, status_of};
 
 use anyhow::anyhow;
-use std::env::Env;
+use std::env::Args;
 use std::process::ExitCode;
-use std::{env, fmt};
+use std::{fmt, io};
+
+/// The words that a program was called with, as the system gives them.
+pub use std::env::args as arguments;
 
 /// What a program is asked to do.
 #[derive(Drop)]
@@ -43,21 +47,20 @@ impl fmt::Display for ArgumentError {
 
 /// What these arguments ask for: `unasked` where there is none, else what `read` makes of the only one.
 pub fn asked<T: Drop, F: FnOnce(&str) -> Option<T>>(
-    arguments: &[String],
+    mut arguments: Args,
     unasked: T,
     read: F,
 ) -> Result<T, ArgumentError>
     requires { F.IsAlwaysCallable read }
-    ensures { Asks F.FnOnce read unasked (map string_bytes arguments.now) result }
+    ensures { Asks F.FnOnce read unasked (map string_bytes (into_iter_items arguments)) result }
 {
-    let Some((first, others)) = arguments.split_first() else {
+    let Some(first) = arguments.next() else {
         return Ok(unasked);
     };
     let task = read(first.as_str()).ok_or(ArgumentError::Unknown)?;
-    if others.is_empty() {
-        Ok(task)
-    } else {
-        Err(ArgumentError::TooMany)
+    match arguments.next() {
+        None => Ok(task),
+        Some(_) => Err(ArgumentError::TooMany),
     }
 }
 
@@ -74,12 +77,6 @@ pub fn status<R: Eprint>(rt: &R, done: anyhow::Result<()>) -> anyhow::Result<Exi
     }
 }
 
-/// The arguments that a program was called with, without its own name. Which these are is the system's to say,
-/// and no contract can.
-pub fn arguments<R: Env + AllocGlobal>(rt: &R) -> anyhow::Result<Vec<String>> {
-    Ok(env::args(rt)?.skip(1).collect(rt.alloc())?)
-}
-
 /// A program as its user calls it.
 #[derive(Clone, Copy)]
 pub struct Program<'a> {
@@ -92,13 +89,13 @@ pub struct Program<'a> {
 }
 
 impl Program<'_> {
-    /// Runs the program on these arguments: its work, or its help. The status is 0 where the work went well,
-    /// and 1 where it did not, where the arguments ask for nothing or could not be read, or where the help
-    /// could not be printed.
+    /// Runs the program on the words that it was called with, of which the first is its name and the others are
+    /// its arguments: its work, or its help. The status is 0 where the work went well, and 1 where it did not,
+    /// where the arguments ask for nothing or could not be read, or where the help could not be printed.
     pub fn run<R, T, F, W>(
         &self,
         rt: &R,
-        arguments: anyhow::Result<Vec<String>>,
+        words: io::Result<Args>,
         unasked: Task<T>,
         read: F,
         work: W,
@@ -110,18 +107,24 @@ impl Program<'_> {
         W: FnOnce(T) -> anyhow::Result<()>,
         requires reads { F.IsAlwaysCallable read }
         requires works { W.IsAlwaysCallable work }
-        ensures { IfOk result (λ status. MatchResult arguments (λ given. Ends F.FnOnce W.FnOnce read work unasked (map string_bytes given.items) (exit_status status)) (λ _. exit_status status ≡ 1)) }
+        ensures { IfOk result (λ status. MatchResult words
+            (λ given. Ends F.FnOnce W.FnOnce read work unasked
+                (map string_bytes (drop 1 (into_iter_items given))) (exit_status status))
+            (λ _. exit_status status ≡ 1)) }
     {
-        match arguments {
-            Ok(given) => self.run_on(rt, given.as_slice(), unasked, read, work),
-            Err(e) => status(rt, Err(e)),
+        match words {
+            Ok(mut given) => {
+                let _name = given.next();
+                self.run_on(rt, given, unasked, read, work)
+            }
+            Err(e) => status(rt, Err(e.into())),
         }
     }
 
     fn run_on<R, T, F, W>(
         &self,
         rt: &R,
-        arguments: &[String],
+        arguments: Args,
         unasked: Task<T>,
         read: F,
         work: W,
@@ -133,7 +136,8 @@ impl Program<'_> {
         W: FnOnce(T) -> anyhow::Result<()>,
         requires reads { F.IsAlwaysCallable read }
         requires works { W.IsAlwaysCallable work }
-        ensures { IfOk result (λ status. Ends F.FnOnce W.FnOnce read work unasked (map string_bytes arguments.now) (exit_status status)) }
+        ensures { IfOk result (λ status. Ends F.FnOnce W.FnOnce read work unasked
+            (map string_bytes (into_iter_items arguments)) (exit_status status)) }
     {
         let task = asked(arguments, unasked, read);
         let done = self.done(rt, task, work);

@@ -1,5 +1,5 @@
 -- Memory for the longest CLTU is never too short. Assumes nothing.
-use Rattle.std.proofs.Common.{◌≡◌, ◌≢◌, ℕ, Bool, true, false, cond, List, ◌++◌, length, take, drop, replicate, Option, Some, None, Ok, Err, Result, nat_lt, ◌∙◌, sym, ap, arith}
+use Rattle.std.proofs.Common.{◌≡◌, ◌≢◌, ℕ, Bool, true, false, cond, List, ◌++◌, length, take, drop, replicate, Ok, Err, Result, nat_lt, ◌∙◌, sym, ap, arith}
 use Rattle.std.proofs.lemmas.List.{length-replicate, take_at}
 use Rattle.refusals.specs.declared.Refusal.{Refusal}
 use Rattle.refusals.specs.declared.Refusal.TheVariants.{FrameLength, MemoryTooShort}

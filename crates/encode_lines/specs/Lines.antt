@@ -14,7 +14,8 @@ use Rattle.encode_lines.specs.declared.FrameAnswer.TheVariants.{Cltu, Refused}
 -- `cltu`, the codeblocks, the fill octets, the octets and all of these in digits
 abbrev pub cltu_text : (codeblocks fill octets : ℕ) (digits : List ℕ) → List ℕ
 cltu_text codeblocks fill octets digits =
-    codes "cltu " ++ (decimal codeblocks ++ (codes " " ++ (decimal fill ++ (codes " " ++ (decimal octets ++ (codes " " ++ digits))))))
+    codes "cltu " ++ (decimal codeblocks ++ (codes " " ++ (decimal fill ++ (codes " "
+    ++ (decimal octets ++ (codes " " ++ digits))))))
 
 -- `cltu`, the codeblocks, the fill octets, the octets and all of these in capitals; or `refused` and the number
 abbrev pub frame_line : Sender → List ℕ → Result ℕ Refusal → List ℕ
@@ -27,7 +28,8 @@ abbrev pub cltus : Result ℕ Refusal → ℕ
 cltus (Ok octets) = 1
 cltus (Err refusal) = 0
 
--- a frame is answered by its line, with its end, and counts if it is sent; octets behind the first that is too many change nothing
+-- a frame is answered by its line, with its end, and counts if it is sent; octets behind the first that is too many
+-- change nothing
 abbrev pub encode_meaning : Sender → Meaning
 encode_meaning sender = record {
   text = λ frame. frame_line sender frame (length_answer sender (length frame)) ++ codes "\n";

@@ -46,6 +46,11 @@ fn main(rt: HostRuntime) -> anyhow::Result<ExitCode> {
         arguments(&rt),
         Task::Work(()),
         asked_task,
-        |()| print_answers(rt.alloc(), FramesLines, &mut rt.stdin(), &mut io::writer(&rt)),
+        |()| print_answers(
+            rt.alloc(),
+            FramesLines,
+            &mut rt.stdin(),
+            &mut io::writer(&rt),
+        ),
     )
 }

@@ -9,7 +9,9 @@ use Rattle.cutting.specs.Cutting.{Kind, frame, fill, Part, Cutting, cutting}
 
 -- a frame is told with its octets in capitals, fill without
 abbrev pub line_of_kind : Kind → Part → List ℕ
-line_of_kind frame p = codes "frame " ++ (decimal p.place ++ (codes " " ++ (decimal (length p.octets) ++ (codes " " ++ (capital_digits p.octets ++ codes "\n")))))
+line_of_kind frame p =
+    codes "frame " ++ (decimal p.place ++ (codes " " ++ (decimal (length p.octets) ++ (codes " "
+    ++ (capital_digits p.octets ++ codes "\n")))))
 line_of_kind fill p = codes "fill " ++ (decimal p.place ++ (codes " " ++ (decimal (length p.octets) ++ codes "\n")))
 
 abbrev pub part_line : Part → List ℕ
@@ -17,7 +19,8 @@ part_line p = line_of_kind p.kind p
 
 -- a refusal by its text, and that of cutting with the place where it arose
 abbrev pub refusal_line : Refusal → List ℕ
-refusal_line (NeitherFrameNorFill place) = refusal_text (NeitherFrameNorFill place) ++ (codes " " ++ (decimal place ++ codes "\n"))
+refusal_line (NeitherFrameNorFill place) =
+    refusal_text (NeitherFrameNorFill place) ++ (codes " " ++ (decimal place ++ codes "\n"))
 refusal_line refusal = refusal_text refusal ++ codes "\n"
 
 abbrev pub refusal_lines : Option ℕ → List ℕ

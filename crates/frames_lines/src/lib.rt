@@ -59,7 +59,8 @@ fn candidate_answer(heap: Global, candidate: &[u8]) -> Result<Answer, AllocError
 // Writes the line of an item.
 fn write_item(heap: Global, item: Item<'_>, answer: &mut Answer) -> Result<(), AllocError>
     requires { answer.old.counted + 1 < 2 ^ 64 }
-    ensures { OnOk result (Writes (part_line (part_of item.entry)) (counts_as (part_of item.entry).kind) answer.old answer.new) }
+    ensures { OnOk result (Writes (part_line (part_of item.entry)) (counts_as (part_of item.entry).kind)
+        answer.old answer.new) }
 {
     match item {
         Item::Frame { place, octets } => {
@@ -91,23 +92,66 @@ fn write_refusal(refusal: Refusal, answer: &mut Answer) -> Result<(), AllocError
 #[cfg(test)]
 mod tests {
     use super::*;
+    use answered_lines::print_answers;
+    use std::io::{Error, ErrorKind, Read, Result as IoResult};
     use std::test::Fail;
+
+    // Gives its octets one by one, and then, if it breaks, an error.
+    #[derive(Drop)]
+    struct Drops<'a> {
+        octets: &'a [u8],
+        breaks: bool,
+    }
+
+    impl Read for Drops<'_> {
+        fn read(&mut self, buf: &mut [u8]) -> IoResult<usize> {
+            if self.breaks && self.octets.is_empty() {
+                return Err(Error::from(ErrorKind::BrokenPipe));
+            }
+            let few = buf.len().min(1);
+            self.octets.read(&mut buf[..few])
+        }
+    }
+
+    #[test]
+    fn lines_in_pieces(rt: HostRuntime) -> Result<(), Fail> {
+        let octets = b"00010004005555\r\n00G1\n\r\n55\r";
+        let text = "frame 0 5 0001000400\nfill 5 2\nunreadable\nunreadable\nend 4 1\n";
+        let mut whole = octets.as_slice();
+        let mut written = Vec::new(rt.alloc());
+        print_answers(rt.alloc(), FramesLines, &mut whole, &mut written)?;
+        assert_eq!(rt; written.as_slice(), text.as_bytes());
+        let mut drops = Drops {
+            octets,
+            breaks: false,
+        };
+        let mut written = Vec::new(rt.alloc());
+        print_answers(rt.alloc(), FramesLines, &mut drops, &mut written)?;
+        assert_eq!(rt; written.as_slice(), text.as_bytes());
+        Ok(())
+    }
+
+    #[test]
+    fn no_end_behind_an_error(rt: HostRuntime) -> Result<(), Fail> {
+        let mut drops = Drops {
+            octets: b"G\n55",
+            breaks: true,
+        };
+        let mut written = Vec::new(rt.alloc());
+        assert!(rt; print_answers(rt.alloc(), FramesLines, &mut drops, &mut written).is_err());
+        assert_eq!(rt; written.as_slice(), b"unreadable\n".as_slice());
+        Ok(())
+    }
 
     #[test]
     fn items_and_refusals(rt: HostRuntime) -> Result<(), Fail> {
-        let answer = FramesLines.answer(
-            rt.alloc(),
-            &[0, 1, 0, 4, 0xAB, 0, 1, 0, 4, 0, 0x55],
-        )?;
+        let answer = FramesLines.answer(rt.alloc(), &[0, 1, 0, 4, 0xAB, 0, 1, 0, 4, 0, 0x55])?;
         assert_eq!(rt;
             answer.text.as_str(),
             "frame 0 5 00010004AB\nframe 5 5 0001000400\nfill 10 1\n"
         );
         assert_eq!(rt; answer.counted, 2);
-        let answer = FramesLines.answer(
-            rt.alloc(),
-            &[0, 1, 0, 4, 0, 0, 1, 0, 7, 0, 0, 0],
-        )?;
+        let answer = FramesLines.answer(rt.alloc(), &[0, 1, 0, 4, 0, 0, 1, 0, 7, 0, 0, 0])?;
         assert_eq!(rt; answer.text.as_str(), "frame 0 5 0001000400\nrefused 9 5\n");
         assert_eq!(rt; answer.counted, 1);
         Ok(())

@@ -13,7 +13,8 @@ Writes most octets text = (all : List ℕ) × (octets_written text ≡ Some all)
 -- the text is whole octets; or such a text with a digit behind it; or no text that begins so is whole octets
 abbrev pub Reads : Progress → Option ℕ → List ℕ → List ℕ → Type 0
 Reads Whole most octets text = Writes most octets text
-Reads (Half digit) most octets text = (front : List ℕ) × (text ≡ front ++ digit ∷ []) × IsSome (digit_value digit) × Writes most octets front
+Reads (Half digit) most octets text =
+    (front : List ℕ) × (text ≡ front ++ digit ∷ []) × IsSome (digit_value digit) × Writes most octets front
 Reads Unreadable most octets text = (further : List ℕ) → octets_written (text ++ further) ≡ None
 
 -- this reader has read this text since it was made or cleared

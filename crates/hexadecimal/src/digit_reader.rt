@@ -45,7 +45,8 @@ impl DigitReader {
 
     /// Reads one more byte of the text.
     pub fn read(&mut self, byte: u8) -> Result<(), AllocError>
-        ensures text { OnOk result ((text : List ℕ) → HasRead self.old text → HasRead self.new (text ++ byte ∷ [])) }
+        ensures text { OnOk result ((text : List ℕ) → HasRead self.old text
+            → HasRead self.new (text ++ byte ∷ [])) }
         ensures most { most_kept self.new ≡ most_kept self.old }
     {
         match self.progress {

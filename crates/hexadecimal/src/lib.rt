@@ -75,6 +75,28 @@ mod tests {
     use std::test::Fail;
 
     #[test]
+    fn reads_digit_by_digit(rt: HostRuntime) -> Result<(), Fail> {
+        for (text, octets) in [
+            ("", Some([].as_slice())),
+            ("Eb", Some(&[0xEB])),
+            ("eB9000", Some(&[0xEB, 0x90])),
+            ("EB900000", Some(&[0xEB, 0x90])),
+            ("EB9000G", None),
+            ("EB90000", None),
+            ("5G00", None),
+        ] {
+            let mut reader = DigitReader::new(rt.alloc(), Some(2));
+            for byte in text.as_bytes() {
+                reader.read(*byte)?;
+            }
+            assert_eq!(rt; reader.octets(), octets, "{}", text);
+            reader.clear();
+            assert_eq!(rt; reader.octets(), Some([].as_slice()));
+        }
+        Ok(())
+    }
+
+    #[test]
     fn reads_and_prints(rt: HostRuntime) -> Result<(), Fail> {
         assert_eq!(rt;
             read_octets(rt.alloc(), b"Eb90")?,

@@ -1,5 +1,5 @@
 -- What comes is taken, and what is answered is written. Assumes nothing.
-use Rattle.std.proofs.Common.{◌≡◌, [], ◌++◌, length, take, sym, ap, subst, ◌∙◌, append-nil, string_bytes, vec_len, arith, rules}
+use Rattle.std.proofs.Common.{◌≡◌, [], ◌++◌, take, sym, ap, subst, ◌∙◌, append-nil, string_bytes, arith}
 use Rattle.std.specs.Io.KnownBytes.{Appends, Consumes}
 use Rattle.std.proofs.lemmas.List.{with_items_is}
 use Rattle.std.proofs.KnownBytes.{Consumes-nil, Consumes-trans, Consumes-kept, Appends-nil, Appends-trans}

@@ -6,4 +6,4 @@ use Rattle.answered_lines.proofs.lines.AnsweredLines.take.Given as goal
 abbrev pub invariant-loop-octet : goal.invariant-loop-octet
 invariant-loop-octet g l = (answering_of l.self ≡ answering_of l.initial.self)
     × ((taken before : List ℕ) → HasTaken g.A.Answering.meaning l.initial.self taken (before ++ string_bytes l.initial.text)
-        → HasTaken g.A.Answering.meaning l.self (taken ++ take l.octet-index l.octets) (before ++ string_bytes l.text))
+    → HasTaken g.A.Answering.meaning l.self (taken ++ take l.octet-index l.octets) (before ++ string_bytes l.text))

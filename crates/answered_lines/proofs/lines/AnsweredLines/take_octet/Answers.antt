@@ -9,7 +9,7 @@ pub returns-then-octet-eq10-clause-taken : goal.returns-then-octet-eq10-clause-t
 returns-then-octet-eq10-clause-taken g c taken before has =
     let meaning_of = g.A.Answering.meaning in
     let after = string_bytes c.end_line.new.text in
-    let is = answered_behind _ has.line _ _ before _ _ (c.in_ok-end_line.ensures.line has.line has.has_read has.most) in
+    let is = answered_behind meaning_of _ _ has.line before _ _ (c.in_ok-end_line.ensures.line has.line has.has_read has.most) in
     subst (λ x. HasTaken meaning_of c.end_line.new.self (taken ++ x ∷ []) (before ++ after)) (sym c.if-octet-eq10.true)
     (newline_taken meaning_of c.args.self.now c.end_line.new.self taken (before ++ string_bytes c.args.text.now) has c.in_ok-end_line.ensures.answering (before ++ after) is)
 

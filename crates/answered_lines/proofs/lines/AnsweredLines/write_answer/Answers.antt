@@ -1,5 +1,5 @@
 -- The answer of what is kept is the answer of the line. Assumes nothing.
-use Rattle.std.proofs.Common.{◌≡◌, ◌++◌, Some, None, refl, sym, ap, ◌∙◌, string_bytes}
+use Rattle.std.proofs.Common.{◌++◌, sym, ap, ◌∙◌, string_bytes}
 use Rattle.std.specs.Option.{option_map, option_copied}
 use Rattle.hexadecimal.specs.Text.{octets_written}
 use Rattle.hexadecimal.specs.Kept.{kept}
@@ -14,7 +14,7 @@ returns-in_ok-push_str-in-Some g c line has most =
     let told = kept_is_told meaning (g.met.A.Answering.further_octets_change_nothing c.args.self.now.answering) (octets_written line) c.in-Some.octets.now read in
     let answer = c.in_ok-answer-in-Some.ensures in
     record {
-      text = c.in_ok-push_str-in-Some.ensures.bytes ∙ ap (λ t. string_bytes c.args.text.now ++ t) (c.as_str.ensures.value ∙ answer.text_is ∙ told.0);
+      written = c.in_ok-push_str-in-Some.ensures.bytes ∙ ap (λ t. string_bytes c.args.text.now ++ t) (c.as_str.ensures.value ∙ answer.text_is ∙ told.0);
       count_is = answer.count_is ∙ told.1;
     }
 
@@ -24,6 +24,6 @@ returns-in_ok-push_str-in-None g c line has most =
     let read = ap option_copied (sym c.in-None.is) ∙ c.octets.ensures line has ∙ ap (λ n. option_map (kept n) (octets_written line)) most in
     let none = nothing_is_kept meaning.most (octets_written line) read in
     record {
-      text = c.in_ok-push_str-in-None.ensures.bytes ∙ ap (λ o. string_bytes c.args.text.now ++ text_of meaning o) (sym none);
+      written = c.in_ok-push_str-in-None.ensures.bytes ∙ ap (λ o. string_bytes c.args.text.now ++ text_of meaning o) (sym none);
       count_is = ap (count_of meaning) (sym none);
     }

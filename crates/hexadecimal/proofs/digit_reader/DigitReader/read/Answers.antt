@@ -1,6 +1,6 @@
 -- One more byte is read. Assumes nothing.
-use Rattle.std.proofs.Common.{◌∷◌, [], ◌++◌, IsSome, sym, subst, ◌∙◌, refl, rules}
-use Rattle.hexadecimal.specs.Reading.{HasRead, Reads, Writes}
+use Rattle.std.proofs.Common.{◌∷◌, [], ◌++◌, IsSome, sym, subst, ◌∙◌, refl}
+use Rattle.hexadecimal.specs.Reading.{Reads, Writes}
 use Rattle.hexadecimal.proofs.DigitByDigit.{bad_behind_whole, bad_behind_half, good_behind_half}
 use Rattle.hexadecimal.proofs.digit_reader.DigitReader.read.Goals.{in-Some, in-None}
 use Rattle.hexadecimal.proofs.digit_reader.DigitReader.read.Goals as goal
