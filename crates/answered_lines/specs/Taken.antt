@@ -27,7 +27,8 @@ CameLast Other line = (front : List ℕ) × (x : ℕ) × (line ≡ front ++ x �
 
 -- a reader has read these octets more
 abbrev pub Reads : List ℕ → DigitReader → DigitReader → Type 0
-Reads more before after = ((line : List ℕ) → HasRead before line → HasRead after (line ++ more)) × (most_kept after ≡ most_kept before)
+Reads more before after =
+    ((line : List ℕ) → HasRead before line → HasRead after (line ++ more)) × (most_kept after ≡ most_kept before)
 
 -- what answers the lines
 abbrev pub answering_of : {A : Type 0} → AnsweredLines A → A

@@ -17,7 +17,7 @@ use Rattle.procedures.specs.declared.Plop.TheVariants.{Two}
 use Rattle.procedures.specs.Stretch.{Parameters, sent_octets, Writing, sends, idles, stretch_octets}
 use Rattle.procedures.specs.Reception.{FramesWithin, codeblocks_of}
 use Rattle.session.specs.declared.Locked.{Locked}
-use Rattle.session.specs.Writing.{parameters_of, idle_answer, GoesOn}
+use Rattle.session.specs.Writing.{limit_of, parameters_of, idle_answer, GoesOn}
 use Rattle.callers.specs.declared.both_ends.SenderSettings.{SenderSettings}
 
 abbrev pub parameters : SenderSettings → Parameters
@@ -46,7 +46,7 @@ pub record SentInFront (before : Locked) (frame memory now : List ℕ) (after : 
   pub within : count ≤ length memory
   pub goes_on : GoesOn before.settings (sends frame ∷ idles 0 ∷ []) (take count now)
   pub rest : drop count now ≡ drop count memory
-  pub fits : FramesWithin before.settings.sender.limit.count (frame ∷ [])
+  pub fits : FramesWithin (limit_of before.settings) (frame ∷ [])
 
 -- and one behind so many octets that were a stretch: these and it are a stretch
 pub record SentBehind
@@ -59,7 +59,7 @@ pub record SentBehind
       take count now
       ≡ stretch_octets (parameters_of before.settings) acquisition (earlier ++ sends frame ∷ idles 0 ∷ [])
   pub rest : drop count now ≡ drop count memory
-  pub fits : FramesWithin before.settings.sender.limit.count (frame ∷ [])
+  pub fits : FramesWithin (limit_of before.settings) (frame ∷ [])
 
 -- a receiver that takes as many codeblocks as the sender sends, over a hold that matches it and has space for both
 -- frames

@@ -24,7 +24,8 @@ text_for sender frame answer = frame_line sender frame answer ++ codes "\n"
 -- either all octets are kept, or both frames are too long
 module _ (sender : Sender) (frame : List ℕ) where
   kept_too_long : 1025 < length frame → length_answer sender (length (take 1025 frame)) ≡ Err FrameLength
-  kept_too_long long = too_long sender (length (take 1025 frame)) (omega (arith, length-take-le 1025 frame (omega arith)))
+  kept_too_long long =
+      too_long sender (length (take 1025 frame)) (omega (arith, length-take-le 1025 frame (omega arith)))
 
   same_text : (b : Bool) → nat_lt 1025 (length frame) ≡ b
       → (encode_meaning sender).text (take 1025 frame) ≡ (encode_meaning sender).text frame

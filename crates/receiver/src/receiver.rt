@@ -189,7 +189,8 @@ impl<H: Hold> Receiver<H> {
     // Symbols one after the other: how many reports they made. In INACTIVE they change nothing.
     fn take_symbols<S: Symbol>(&mut self, symbols: &[S], reports: &mut Queue<'_, Report>) -> usize
         ensures made { result ≡ length (reports_at H.Hold self.old (symbol_events (decisions S.Symbol symbols.now))) }
-        ensures ran { Ran H.Hold (symbol_events (decisions S.Symbol symbols.now)) self.old self.new reports.old reports.new }
+        ensures ran { Ran H.Hold (symbol_events (decisions S.Symbol symbols.now))
+            self.old self.new reports.old reports.new }
     {
         let mut made = 0;
         for symbol in symbols {

@@ -1,6 +1,6 @@
 -- The rules of reception: what a receiver does at each event, by its settings, its state and what its hold means. They
--- are total: an event that is refused changes nothing. Searching and decoding are apart, each in a file of its own; what
--- becomes of windows and of the state when a start is found or a candidate ends is said here. Assumes nothing.
+-- are total: an event that is refused changes nothing. Searching and decoding are apart, each in a file of its own;
+-- what becomes of windows and of the state when a start is found or a candidate ends is said here. Assumes nothing.
 use Rattle.std.specs.Prelude.{ℕ, Bool, true, false, List, [], ◌∷◌}
 use Rattle.hold.specs.Candidates.{Showing}
 use Rattle.reception.specs.declared.Reason.TheVariants.{Down}

@@ -16,13 +16,13 @@ use Rattle.session.specs.declared.Carrier.{Carrier}
 use Rattle.session.specs.declared.Locked.{Locked}
 use Rattle.session.specs.declared.AfterSending.{AfterSending}
 use Rattle.session.specs.declared.AfterSending.TheVariants.{Sent as now_sent, Locked as still_locked}
-use Rattle.session.specs.Writing.{job_octets, job_answer, writings_of}
+use Rattle.session.specs.Writing.{limit_of, job_octets, job_answer, writings_of}
 
 -- a session was made, with these numbers
 pub record MadeWith
     (plop : Plop) (limit : ℕ) (randomizer : Randomizer) (idle : IdleOctet) (silent : Silent) : Type 0 where
   pub its-plop : silent.settings.plop ≡ plop
-  pub its-limit : limit_answer limit ≡ Ok silent.settings.sender.limit.count
+  pub its-limit : limit_answer limit ≡ Ok (limit_of silent.settings)
   pub its-randomizer : silent.settings.sender.randomizer ≡ randomizer
   pub its-idle : silent.settings.idle ≡ idle
 

@@ -10,7 +10,7 @@ use Rattle.procedures.specs.Stretch.{frames_in}
 use Rattle.procedures.specs.Signals.{SentStretch, Stretches, frames_on, signals_on, cltus_on, heard}
 use Rattle.procedures.specs.Reception.{FramesWithin, codeblocks_of, Adds, SpaceAt}
 use Rattle.session.specs.declared.Settings.{Settings}
-use Rattle.session.specs.Writing.{parameters_of}
+use Rattle.session.specs.Writing.{limit_of, parameters_of}
 use Rattle.session.specs.declared.Silent.{Silent}
 use Rattle.session.specs.Machine.{Call, FrameMemoryOfOctets, bears_data, signals_between, standing_after, signals_of_calls, frames_of_calls, cltus_behind, cltus_of_calls, Session, silent_session, IsStep, StandsAfter}
 
@@ -39,7 +39,7 @@ AStepGoesOn =
 pub record InOrder (settings : Settings) (one : SentStretch) : Type 0 where
   pub least : 16 ≤ one.acquisition
   pub most : one.acquisition ≤ 255
-  pub frames : FramesWithin settings.sender.limit.count (frames_in one.writings)
+  pub frames : FramesWithin (limit_of settings) (frames_in one.writings)
   pub alone : settings.plop ≡ One → length (frames_in one.writings) ≤ 1
 
 -- what calls put on the carrier is stretches, one behind the other, and nothing outside of them. The last is open just
@@ -61,7 +61,7 @@ AnyCallsAreStretches =
 abbrev pub FramesOfCallsAreWithin : Type 0
 FramesOfCallsAreWithin =
     (settings : Settings) (calls : List Call) (limit : ℕ) → AllByRecursion FrameMemoryOfOctets calls →
-    settings.sender.limit.count ≤ limit → FramesWithin limit (frames_of_calls settings calls)
+    limit_of settings ≤ limit → FramesWithin limit (frames_of_calls settings calls)
 
 -- with a stretch open at the end a receiver is in SEARCH with no candidate open, else it is INACTIVE
 abbrev pub EndsUp : Bool → State → Type 0

@@ -3,11 +3,16 @@ use Rattle.std.specs.Prelude.{◌≡◌, ℕ, ◌+◌, ◌<◌, ◌≤◌, cond,
 use Rattle.std.specs.Int.{is_in_range}
 use Rattle.refusals.specs.declared.Refusal.{Refusal}
 use Rattle.refusals.specs.declared.Refusal.TheVariants.{FrameLength, MemoryTooShort, IdleLength}
+use Rattle.cltu.specs.Limit.{codeblocks_allowed}
 use Rattle.cltu.specs.Writing.{frame_refused}
 use Rattle.procedures.specs.Stretch.{repeated, Parameters, sent_octets, Writing, sends, idles, stretch_octets}
 use Rattle.session.specs.declared.FrameSpan.{FrameSpan}
 use Rattle.session.specs.declared.Job.{Job}
 use Rattle.session.specs.declared.Settings.{Settings}
+
+-- how many codeblocks its CLTUs may have
+abbrev pub limit_of : Settings → ℕ
+limit_of settings = codeblocks_allowed settings.sender.limit
 
 abbrev pub parameters_of : Settings → Parameters
 parameters_of settings = record { plop = settings.plop; randomizer = settings.sender.randomizer; idle = settings.idle }
@@ -47,7 +52,7 @@ module _ (settings : Settings) (frames : List ℕ) (job : Job) where
   job_answer memory =
       cond
       (nat_lt (length frames) (job.frame.place + job.frame.length)
-      || frame_refused settings.sender.limit.count job.frame.length) (Err FrameLength)
+      || frame_refused (limit_of settings) job.frame.length) (Err FrameLength)
       (cond (nat_lt (length memory) (length job_octets)) (Err MemoryTooShort)
       (cond (nat_lt 2000 job.idle) (Err IdleLength)
       (Ok (length job_octets))))

@@ -10,7 +10,7 @@ ghost use Rattle.cltu.specs.Limit.{limit_answer};
 ghost use Rattle.session.specs.Calls.{MadeWith, silent_with, carrier_with, acquired, state_after, sending, only_frame, next_octets, next_answer, next_writings};
 ghost use Rattle.session.specs.Machine.{call_raise, call_lower, call_acquire, call_idle, call_send, call_run_next, call_break, silent_session, carrier_session, locked_session, sent_session, session_after, IsStep};
 ghost use Rattle.session.specs.Promise.{CallsPromise};
-ghost use Rattle.session.specs.Writing.{parameters_of, frame_at, Found, NotWhole, idle_answer, job_octets, job_answer, memory_after, GoesOn, writings_of};
+ghost use Rattle.session.specs.Writing.{limit_of, parameters_of, frame_at, Found, NotWhole, idle_answer, job_octets, job_answer, memory_after, GoesOn, writings_of};
 
 use cltu::{CodeblockLimit, Sender};
 use procedures::{IdleOctet, Plop};
@@ -270,7 +270,7 @@ impl Locked {
             memory.new ≡ memory_after (job_octets self.settings frames.now (only_frame frame)) memory.old answer }
         ensures stretch { IfOk result
             (λ done. GoesOn self.settings (writings_of frames.now (only_frame frame)) (take done.1 memory.new)) }
-        ensures fits { let limit = self.settings.sender.limit.count in
+        ensures fits { let limit = limit_of self.settings in
             IfOk result (λ _. FramesWithin limit (frames_in (writings_of frames.now (only_frame frame)))) }
         ensures call { let call = call_send frames.now frame memory.old in
             let frames = frame_at frames.now frame ∷ [] in
@@ -300,7 +300,7 @@ impl Locked {
         ensures stretch { let writings = next_writings self.settings frames.now (waiting jobs.old) in
             IfOk result (λ done. GoesOn self.settings writings (take done.1 memory.new)) }
         ensures fits { let writings = next_writings self.settings frames.now (waiting jobs.old) in
-            IfOk result (λ _. FramesWithin self.settings.sender.limit.count (frames_in writings)) }
+            IfOk result (λ _. FramesWithin (limit_of self.settings) (frames_in writings)) }
         ensures call { let call = call_run_next (waiting jobs.old) frames.now memory.old in
             let frames = frames_in (next_writings self.settings frames.now (waiting jobs.old)) in
             MatchResult result
