@@ -1,9 +1,9 @@
 -- The lines of octets that stand behind one another. Assumes nothing.
 use Rattle.std.proofs.Common.{◌≡◌, ◌≢◌, ℕ, Bool, true, false, cond, ◌&&◌, ◌==◌, ne_eqb, List, [], ◌∷◌, ◌++◌, refl, sym, ap, subst, ◌∙◌, append_assoc, append-nil, arith}
-use Rattle.answered_lines.specs.Lines.{newline_in_front, in_first_line, in_front, lines_of}
+use Rattle.answered_lines.specs.Lines.{newline_in_front, in_first_line, in_front, lines_of, NoNewline, LinesEnd}
 use Rattle.answered_lines.specs.declared.lines.Last.{Last}
 use Rattle.answered_lines.specs.declared.lines.Last.TheVariants.{Newline, CarriageReturn, Other}
-use Rattle.answered_lines.specs.Taken.{waiting, NoNewline, CameLast}
+use Rattle.answered_lines.specs.Taken.{waiting, CameLast}
 
 -- an octet of a line, before something else than a newline
 of_the_line : (x : ℕ) (lines : List (List ℕ)) → x ≢ 10 → in_front x false lines ≡ in_first_line x lines
@@ -71,3 +71,16 @@ no_newline_waits Other = tt
 pub no_newline_append : (line more : List ℕ) → NoNewline line → NoNewline more → NoNewline (line ++ more)
 no_newline_append [] more all also = also
 no_newline_append (x ∷ line) more all also = (all.0, no_newline_append line more all.1 also)
+
+pub lines_end : LinesEnd
+lines_end = record {
+  newline = λ line x further all differs.
+      let whole = line ++ x ∷ [] in
+      ap (λ l. lines_of (l ++ 10 ∷ further)) (sym (append-nil whole)) ∙ newline_ends Other whole further all (line, x, refl, differs);
+  newline_alone = λ further. refl;
+  both = λ line further all. ap lines_of (sym (append_assoc line (13 ∷ []) (10 ∷ further))) ∙ newline_ends CarriageReturn line further all tt;
+  without_end = λ line x all.
+      let parts = no_newline_front line x all in
+      in_front_of (x ∷ []) (x ∷ []) [] (ne_eqb x 10 parts.1) (of_the_line x [] parts.1) line parts.0;
+  nothing = refl;
+}

@@ -5,11 +5,11 @@ use Rattle.std.proofs.lemmas.List.Sums.{sum_by-append}
 use Rattle.hexadecimal.specs.declared.digit_reader.DigitReader.{DigitReader}
 use Rattle.hexadecimal.specs.Reading.{HasRead}
 use Rattle.answered_lines.specs.Meaning.{Meaning}
-use Rattle.answered_lines.specs.Lines.{lines_of}
+use Rattle.answered_lines.specs.Lines.{lines_of, NoNewline}
 use Rattle.answered_lines.specs.Printed.{line_text, line_count, answers, counted, end_line, printed}
 use Rattle.answered_lines.specs.declared.lines.Last.TheVariants.{Newline}
 use Rattle.answered_lines.specs.declared.lines.AnsweredLines.{AnsweredLines}
-use Rattle.answered_lines.specs.Taken.{waiting, NoNewline, CameLast, Reads, HasTaken, IsDone, AnswersLine}
+use Rattle.answered_lines.specs.Taken.{waiting, CameLast, Reads, HasTaken, IsDone, AnswersLine}
 use Rattle.answered_lines.proofs.LinesOf.{newline_ends, no_newline_append, open_lines, ends}
 
 -- one line more

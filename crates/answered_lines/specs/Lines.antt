@@ -1,5 +1,6 @@
 -- The lines of an input. Assumes nothing.
-use Rattle.std.specs.Prelude.{ℕ, Bool, false, cond, ◌&&◌, ◌==◌, List, [], ◌∷◌}
+use Rattle.std.specs.Prelude.{◌≡◌, ◌≢◌, ℕ, Bool, false, cond, ◌&&◌, ◌==◌, List, [], ◌∷◌, ◌++◌}
+use Rattle.std.specs.List.{AllByRecursion}
 
 -- a newline is in front
 abbrev pub newline_in_front : List ℕ → Bool
@@ -23,3 +24,17 @@ in_front x before_newline lines =
 abbrev pub lines_of : List ℕ → List (List ℕ)
 lines_of [] = []
 lines_of (x ∷ further) = in_front x (newline_in_front further) (lines_of further)
+
+abbrev pub NoNewline : List ℕ → Type 0
+NoNewline line = AllByRecursion (λ x. x ≢ 10) line
+
+-- how lines end, whatever comes behind them: with a newline behind another octet than a carriage return, or behind none,
+-- or with both, or with the octets
+pub record LinesEnd : Type 0 where
+  pub newline : (line : List ℕ) (x : ℕ) (further : List ℕ) → NoNewline (line ++ x ∷ []) → x ≢ 13
+      → lines_of ((line ++ x ∷ []) ++ 10 ∷ further) ≡ (line ++ x ∷ []) ∷ lines_of further
+  pub newline_alone : (further : List ℕ) → lines_of (10 ∷ further) ≡ [] ∷ lines_of further
+  pub both : (line further : List ℕ) → NoNewline line → lines_of (line ++ 13 ∷ 10 ∷ further) ≡ line ∷ lines_of further
+  pub without_end : (line : List ℕ) (x : ℕ) → NoNewline (line ++ x ∷ [])
+      → lines_of (line ++ x ∷ []) ≡ (line ++ x ∷ []) ∷ []
+  pub nothing : lines_of [] ≡ []

@@ -1,10 +1,9 @@
 -- What lines have taken of an input. Assumes nothing.
 use Rattle.std.specs.Prelude.{◌≡◌, ◌≢◌, ℕ, ◌+◌, List, [], ◌∷◌, ◌++◌, length}
-use Rattle.std.specs.List.{AllByRecursion}
 use Rattle.hexadecimal.specs.declared.digit_reader.DigitReader.{DigitReader}
 use Rattle.hexadecimal.specs.Reading.{HasRead, most_kept}
 use Rattle.answered_lines.specs.Meaning.{Meaning}
-use Rattle.answered_lines.specs.Lines.{lines_of}
+use Rattle.answered_lines.specs.Lines.{lines_of, NoNewline}
 use Rattle.answered_lines.specs.Printed.{line_text, line_count, answers, counted, printed}
 use Rattle.answered_lines.specs.declared.lines.Last.{Last}
 use Rattle.answered_lines.specs.declared.lines.Last.TheVariants.{Newline, CarriageReturn, Other}
@@ -15,9 +14,6 @@ abbrev pub waiting : Last → List ℕ
 waiting Newline = []
 waiting CarriageReturn = 13 ∷ []
 waiting Other = []
-
-abbrev pub NoNewline : List ℕ → Type 0
-NoNewline line = AllByRecursion (λ x. x ≢ 10) line
 
 -- what came last, where this is read of the open line
 abbrev pub CameLast : Last → List ℕ → Type 0

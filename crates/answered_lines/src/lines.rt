@@ -1,6 +1,7 @@
 //! The lines of an input, answered one after the other.
 
 ghost use Rattle.std.specs.Prelude.{◌≡◌, [], ◌∷◌, ◌++◌, IfOk, OnOk, string_bytes};
+ghost use Rattle.answered_lines.specs.Lines.{LinesEnd};
 ghost use Rattle.answered_lines.specs.Printed.{end_line};
 ghost use Rattle.answered_lines.specs.Taken.{waiting, answering_of, Reads, HasTaken, Takes, AnswersWhatIsRead, TellsWhatIsRead, EndsWith, PrintsToTheEnd};
 
@@ -45,9 +46,11 @@ pub struct AnsweredLines<A> {
 
 impl<A: Answering> AnsweredLines<A> {
     /// The lines of an input of which nothing has come.
+    #[tactic(auto, using(crate::proofs::LinesOf::lines_end))]
     pub fn new(heap: Global, answering: A) -> Self
         ensures answering { answering_of result ≡ answering }
         ensures taken { HasTaken A.meaning result [] [] }
+        ensures lines { LinesEnd }
     {
         let most = answering.most_octets();
         AnsweredLines {
