@@ -1,6 +1,7 @@
 -- What the proofs share. Assumes nothing.
 pub mod Idle
 pub mod Used
+pub mod Raised
 pub mod Recovered
 pub mod Released
 pub mod Commanded

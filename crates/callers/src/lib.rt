@@ -5,10 +5,12 @@
 mod both_ends;
 mod carrier;
 mod command;
+mod making;
 mod recovery;
 
 pub use both_ends::{SenderSettings, send_two};
 pub use command::receive_command;
+pub use making::listening;
 pub use recovery::recover;
 
 // Each public function once over a hold of each kind, and a receiver over lent cells in the ways in which a client
@@ -130,11 +132,9 @@ mod tests {
         let settings = Settings::new(Mode::Correcting, 1)?;
         let mut memory = [0; 7];
         let mut cells = [LinkedCell::EMPTY; 2];
-        let mut receiver = Receiver::new(settings, Chain::new(&mut cells));
-        receiver.carrier_up()?;
+        let mut receiver = listening(settings, Chain::new(&mut cells));
         assert!(rt; command_over(&mut receiver, &mut memory)? == 7 && memory == FRAME);
-        let mut receiver = Receiver::new(settings, OneCell::new());
-        receiver.carrier_up()?;
+        let mut receiver = listening(settings, OneCell::new());
         assert!(rt; command_over(&mut receiver, &mut memory[..6]) == Err(Refusal::MemoryTooShort));
         assert!(rt; receiver.finished_count() == 1);
         Ok(())
