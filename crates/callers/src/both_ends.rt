@@ -34,7 +34,7 @@ pub struct SenderSettings {
 /// both frames into the memory, and the receiver, whose carrier goes up for it, hears the bits of these octets. Answers
 /// how many octets these are.
 /// Refused as the session's calls are, in their order, and with 5 where the receiver is not INACTIVE; then the
-/// receiver and the queue are as they were.
+/// receiver and the queue are as they were, and the memory may hold what was written until then.
 pub fn send_two<H: Hold>(
     settings: SenderSettings,
     acquisition: usize,
