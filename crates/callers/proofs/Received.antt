@@ -22,10 +22,6 @@ use Rattle.callers.specs.InUse.{InUse, BackInSearch}
 use Rattle.callers.specs.BothEnds.{parameters, two_frames, raised_for, FitsTheSender}
 use Rattle.callers.proofs.Used.{by_its_events, back}
 
-within_more : (m n : ℕ) (frames : List (List ℕ)) → m ≤ n → FramesWithin m frames → FramesWithin n frames
-within_more m n [] more within = tt
-within_more m n (frame ∷ frames) more within = (within.0, within.1, omega (arith, within.2), within_more m n frames more within.3)
-
 module _ {X : Type 0} (hold : Ghosts X) where
   pub two_received : (sender : SenderSettings) (acquisition : ℕ) (first second octets : List ℕ) (before after : Receiver X) (q s : Queue Report) →
       SessionPromise → PromiseOverCalls hold →
@@ -43,7 +39,7 @@ module _ {X : Type 0} (hold : Ghosts X) where
       let here : state_of hold before ≡ then = by_its_events hold before used over in
       let got = session.stretch rules shown (parameters sender) acquisition (two_frames first second) used.over earlier later
       (ap (λ u. u.phase) (sym here) ∙ over.was_down before raised) (joined.up_called (bits_of octets)) (joined.symbols_called (bits_of octets) ∙ ap bits_of written)
-      (within_more sender.«limit» rules.limit (first ∷ second ∷ []) fits.limits within)
+      (session.higher_limit sender.«limit» rules.limit (first ∷ second ∷ []) fits.limits within)
       (subst (λ u. codeblocks_of (first ∷ second ∷ []) ≤ room u.held) here fits.space) in
       let last = after_events rules shown then (carrier_up ∷ later) in
       let there : state_of hold after ≡ last = ran.state ∙ ap (λ u. after_events rules shown u (carrier_up ∷ later)) here in

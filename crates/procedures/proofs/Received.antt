@@ -24,7 +24,7 @@ use Rattle.reception.proofs.Sent.{idle_gap, away_comes, one_well_sent, under_fil
 use Rattle.reception.proofs.Undamaged.{as_sent_is_within_the_allowance}
 use Rattle.procedures.specs.Stretch.{idle_octet, repeated, idle_behind, Parameters, sent_octets, Writing, idles, sends, octets_in, stretch_octets, frames_in}
 use Rattle.procedures.specs.Signals.{Signal, goes_up, bit, goes_down, signals_of_octets, SentStretch, Stretches, frames_of_closed, frames_of_opened, frames_on, PlacedCltu, closed_signals, signals_of_opened, cltus_in, cltus_of, cltus_of_closed, cltus_of_opened, heard, up_after}
-use Rattle.procedures.specs.Reception.{FramesWithin, codeblocks_of, ReceivedStretch, events_of_stretch, BroughtUndamaged, frames_of, as_sent, one_open, Adds, SpaceAt, SpaceInTime, EndsIn, WhatIsHeardInTimeIsReceived, SpaceForAllIsSpaceInTime, AStretchInTimeIsReceived, AStretchIsReceived, ASessionInTimeIsReceived, ASessionIsReceived, SessionPromise}
+use Rattle.procedures.specs.Reception.{FramesWithin, codeblocks_of, ReceivedStretch, events_of_stretch, BroughtUndamaged, frames_of, as_sent, one_open, Adds, SpaceAt, SpaceInTime, EndsIn, WhatIsHeardInTimeIsReceived, SpaceForAllIsSpaceInTime, AStretchInTimeIsReceived, AStretchIsReceived, ASessionInTimeIsReceived, ASessionIsReceived, SessionPromise, AHigherLimitTakesTheSameFrames}
 use Rattle.procedures.proofs.Hearing.{signals_append, heard_append, up_append, symbols_heard, heard_up, heard_down, stays_down, stays_up, goes_up_at, goes_down_at, more_heard, none_heard}
 use Rattle.procedures.proofs.Stretches.{idle_events, repeated_on, cltu_first, a_stretch_is_cltus_with_idle_between}
 use Rattle.procedures.proofs.Rooms.{room_left, capacity_stays}
@@ -395,6 +395,11 @@ module _ (settings : Settings) (showing : Showing) where
       a_session_in_time_is_received parameters stretches hold earlier inactive brought few
       (space_for_all_is_space_in_time parameters (as_sent stretches) hold earlier (flat_map events_of_stretch stretches) inactive (omega (arith, space, ap codeblocks_of (frames_sent stretches))))
 
+pub a_higher_limit_takes_the_same_frames : AHigherLimitTakesTheSameFrames
+a_higher_limit_takes_the_same_frames limit higher [] more within = tt
+a_higher_limit_takes_the_same_frames limit higher (frame ∷ frames) more within =
+    (within.0, within.1, omega (arith, within.2), a_higher_limit_takes_the_same_frames limit higher frames more within.3)
+
 pub session_promise : SessionPromise
 session_promise =
     record {
@@ -407,6 +412,7 @@ session_promise =
       space_for_all = space_for_all_is_space_in_time;
       space_seen = space_seen_is_space_at;
       capacity = capacity_stays;
+      higher_limit = a_higher_limit_takes_the_same_frames;
       heard_together = heard_append;
       up_together = up_append;
       heard_symbols = symbols_heard;

@@ -47,6 +47,12 @@ FramesWithin limit [] = Unit {0}
 FramesWithin limit (frame ∷ frames) =
     AllBelowBase 256 frame × (1 ≤ length frame) × (codeblocks_for (length frame) ≤ limit) × FramesWithin limit frames
 
+-- a receiver that allows as many codeblocks as the sender, or more, allows its frames
+abbrev pub AHigherLimitTakesTheSameFrames : Type 0
+AHigherLimitTakesTheSameFrames =
+    (limit higher : ℕ) (frames : List (List ℕ)) →
+    limit ≤ higher → FramesWithin limit frames → FramesWithin higher frames
+
 abbrev pub codeblocks_of : List (List ℕ) → ℕ
 codeblocks_of [] = 0
 codeblocks_of (frame ∷ frames) = codeblocks_for (length frame) + codeblocks_of frames
@@ -216,6 +222,7 @@ pub record SessionPromise : Type 0 where
   pub space_for_all : (settings : Settings) (showing : Showing) → SpaceForAllIsSpaceInTime settings showing
   pub space_seen : (settings : Settings) (showing : Showing) → SpaceSeenIsSpaceAt settings showing
   pub capacity : (settings : Settings) (showing : Showing) → TheCapacityStays settings showing
+  pub higher_limit : AHigherLimitTakesTheSameFrames
   pub heard_together : HeardOneBehindTheOther
   pub up_together : UpBehindBoth
   pub heard_symbols : SymbolsAreHeard

@@ -17,7 +17,7 @@ use Rattle.procedures.specs.Signals.{Signal, goes_up, goes_down, signals_of_octe
 use Rattle.procedures.specs.Reception.{FramesWithin, codeblocks_of, Adds, SpaceAt, EndsIn}
 use Rattle.procedures.proofs.Appended.{frames_append, frames_closed_append, open_append, cltus_append, cltus_closed_append}
 use Rattle.procedures.proofs.Hearing.{signals_append}
-use Rattle.procedures.proofs.Received.{within_both, what_is_heard_in_time_is_received, space_for_all_is_space_in_time}
+use Rattle.procedures.proofs.Received.{within_both, a_higher_limit_takes_the_same_frames, what_is_heard_in_time_is_received, space_for_all_is_space_in_time}
 use Rattle.session.specs.declared.Job.{Job}
 use Rattle.session.specs.declared.Settings.{Settings}
 use Rattle.session.specs.Writing.{parameters_of, frame_at, idle_answer, job_octets, job_answer, writings_of}
@@ -332,15 +332,11 @@ any_calls_are_stretches settings calls octets =
       last = open_where_it_bears settings (standing_after settings calls) r.opened r.stands;
     }
 
-within_more : (least most : ℕ) → least ≤ most → (frames : List (List ℕ)) → FramesWithin least frames → FramesWithin most frames
-within_more least most le [] within = tt
-within_more least most le (frame ∷ frames) within = (within.0, within.1, omega (arith, within.2), within_more least most le frames within.3)
-
 frames_of_calls_are_within : FramesOfCallsAreWithin
 frames_of_calls_are_within settings calls limit octets le =
     let a = any_calls_are_stretches settings calls octets in
     let L = settings.sender.limit.count in
-    within_more L limit le (frames_of_calls settings calls) (subst (λ l. FramesWithin L l) (sym a.frames)
+    a_higher_limit_takes_the_same_frames L limit (frames_of_calls settings calls) le (subst (λ l. FramesWithin L l) (sym a.frames)
     (within_both L (frames_of_closed a.on.closed) (frames_of_opened a.on.opened) (closed_within settings a.on.closed a.closed) (open_within settings a.on.opened a.opened)))
 
 module _ (receiver : ReceiverSettings) (showing : Showing) where
