@@ -109,7 +109,7 @@ impl Program<'_> {
         requires works { W.IsAlwaysCallable work }
         ensures { IfOk result (λ status. MatchResult words
             (λ given. Ends F.FnOnce W.FnOnce read work unasked
-                (map string_bytes (drop 1 (into_iter_items given))) (exit_status status))
+            (map string_bytes (drop 1 (into_iter_items given))) (exit_status status))
             (λ _. exit_status status ≡ 1)) }
     {
         match words {
