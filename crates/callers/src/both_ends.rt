@@ -55,6 +55,7 @@ pub fn send_two<H: Hold>(
         ((held_by H.Hold receiver.new).finished
         ≡ (held_by H.Hold receiver.old).finished ++ filled first.now ∷ filled second.now ∷ [])
         × BackInSearch H.Hold receiver.new) }
+    ensures in_use { InUse H.Hold receiver.old → InUse H.Hold receiver.new }
     ensures refused { OnErr result ((receiver.new ≡ receiver.old) × (reports.new ≡ reports.old)) }
 {
     let octets = write_two(settings, acquisition, first, second, memory)?;

@@ -33,6 +33,7 @@ pub fn receive_command<H: Hold>(
     ensures received { BackInSearch H.Hold receiver.old → (frame : List ℕ) →
         IsCommand H.Hold receiver.old frame symbols.now → length (filled frame) ≤ length memory.old →
         IsFrameInFront frame memory.old memory.new result × BackInSearch H.Hold receiver.new }
+    ensures in_use { InUse H.Hold receiver.old → InUse H.Hold receiver.new }
     ensures refused { (state_of H.Hold receiver.old).phase ≡ INACTIVE →
         (result ≡ Err Refusal.CarrierDown) × (receiver.new ≡ receiver.old) × (reports.new ≡ reports.old)
         × (memory.new ≡ memory.old) }

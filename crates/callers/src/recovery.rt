@@ -27,6 +27,7 @@ pub fn recover<H: Hold>(
         Ran H.Hold events receiver.old receiver.new reports.old reports.new) }
     ensures back { OnOk result (
         InUse H.Hold receiver.old → idle_needed receiver.old ≤ length memory.old → BackInSearch H.Hold receiver.new) }
+    ensures in_use { InUse H.Hold receiver.old → InUse H.Hold receiver.new }
     ensures refused { OnErr result (
         (receiver.new ≡ receiver.old) × (memory.new ≡ memory.old) × (reports.new ≡ reports.old)) }
 {

@@ -7,7 +7,7 @@ use Rattle.reception.proofs.Counts.{corrections_are_among_the_codeblocks, a_repo
 use Rattle.reception.proofs.Refused.{a_refused_call_changes_nothing}
 use Rattle.reception.proofs.Finished.{what_is_finished_stays}
 use Rattle.reception.proofs.Idle.{idle_brings_it_back}
-use Rattle.reception.proofs.Sent.{carrier_up_makes_it_ready, what_is_sent_then_is_received, what_is_received_is_reported}
+use Rattle.reception.proofs.Sent.{carrier_up_makes_it_ready, what_is_sent_then_is_received, a_gap_behind_leaves_it_clear, what_is_received_is_reported}
 use Rattle.reception.proofs.Undamaged.{as_sent_is_within_the_allowance, undamaged_comes_back}
 use Rattle.reception.proofs.Joined.{runs_are_joined}
 
@@ -18,6 +18,7 @@ promise settings showing =
       stays = what_is_finished_stays settings showing;
       back = idle_brings_it_back settings showing;
       received = what_is_sent_then_is_received settings showing;
+      behind = a_gap_behind_leaves_it_clear settings showing;
       reported = what_is_received_is_reported settings showing;
       within = as_sent_is_within_the_allowance settings;
       undamaged = undamaged_comes_back settings showing;

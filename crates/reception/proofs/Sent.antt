@@ -17,7 +17,7 @@ use Rattle.reception.specs.Runs.{after_events, reports_of, symbols_in, CarrierSt
 use Rattle.reception.specs.Allowance.{value, ReceivedCltu, symbols_of, WithinAllowance, wrong_in}
 use Rattle.reception.specs.Finished.{announced, new_candidates}
 use Rattle.reception.specs.Gaps.{IdleOrNothing, CarrierUpMakesItReady, CarrierStaysDown, CarrierBreak}
-use Rattle.reception.specs.Sent.{Transmission, information_sent, events_of, WellSent, FollowOneAnother, SentFrom, WhatIsSentThenIsReceived, told_of, WhatIsReceivedIsReported}
+use Rattle.reception.specs.Sent.{Transmission, information_sent, events_of, WellSent, FollowOneAnother, SentFrom, WhatIsSentThenIsReceived, AGapBehindLeavesItClear, told_of, WhatIsReceivedIsReported}
 use Rattle.reception.proofs.Decoding.{length_shown_from}
 use Rattle.reception.proofs.Kept.{none_open_in_inactive}
 use Rattle.reception.proofs.Idle.{idle_is_no_start, idle_goes_in}
@@ -306,6 +306,45 @@ module _ (settings : Settings) (showing : Showing) (randomizer : Randomizer) whe
           let both = joined_to s t ts one.hold one.goes.after one.goes.news one.goes.reports rest in
           let at_once = ap (λ l. l ++ (t.events ++ events_of ts)) sent.0 in
           record { clear = subst (λ l. ClearState (run s l)) (sym at_once) both.0; new = ap (news s) at_once ∙ both.1; told = ap (tells s) at_once ∙ both.2 }
+
+  record EndsEmpty (s : State) (es : List Event) : Type 0 where
+    hold : Held
+    after : run s es ≡ state (SEARCH 0 0) hold
+    opened : hold.opened ≡ None
+
+  all_end : (ts : List Transmission) (h : Held) → h.opened ≡ None → FollowOneAnother settings showing randomizer (state (SEARCH 0 0) h) ts → EndsEmpty (state (SEARCH 0 0) h) (events_of ts)
+  all_end [] h none follow = record { hold = h; after = refl; opened = none }
+  all_end (t ∷ ts) h none follow =
+      let s = state (SEARCH 0 0) h in
+      let gap = gap_comes settings showing t.gap h none follow.0 in
+      let there = run s t.gap in
+      let one = one_well_sent there gap.next gap.count gap.window gap.hold t gap.after gap.opened gap.calm follow.1 in
+      let rest = all_end ts one.hold one.opened (subst (λ u. FollowOneAnother settings showing randomizer u ts) one.goes.after follow.2) in
+      record {
+        hold = rest.hold;
+        after = after_append settings showing t.gap (t.events ++ events_of ts) s ∙ after_append settings showing t.events (events_of ts) there ∙ ap (λ u. run u (events_of ts)) one.goes.after ∙ rest.after;
+        opened = rest.opened;
+      }
+
+  pub a_gap_behind_leaves_it_clear : AGapBehindLeavesItClear settings showing randomizer
+  a_gap_behind_leaves_it_clear hold earlier gap first more clear sent lies = by then.phase then.held clear refl
+    where
+      then : State
+      then = after_events settings showing (made hold) earlier
+
+      last : State
+      last = run then (events_of (first ∷ more) ++ gap)
+
+      by : (p : Phase) (h : Held) → Clear p h → then ≡ state p h → Clear last.phase last.held
+      by INACTIVE h c is = absurd c
+      by (DECODE r) h c is = absurd c
+      by (SEARCH count window) h c is =
+          let one = one_well_sent then c.1.0 count window h first is c.0 c.1.1 sent.1 in
+          let rest = all_end more one.hold one.opened (subst (λ u. FollowOneAnother settings showing randomizer u more) one.goes.after sent.2) in
+          let w = gap_comes settings showing gap rest.hold rest.opened lies in
+          let all = ap (λ l. run then (l ++ (first.events ++ events_of more))) sent.0 ∙ after_append settings showing first.events (events_of more) then ∙ ap (λ u. run u (events_of more)) one.goes.after ∙ rest.after in
+          let there = after_append settings showing (events_of (first ∷ more)) gap then ∙ ap (λ u. run u gap) all ∙ w.after in
+          subst (λ u. Clear u.phase u.held) (sym there) (w.opened, (w.next, w.calm))
 
   -- every frame that is followed has octets
   OctetsAll : List Transmission → Type 0

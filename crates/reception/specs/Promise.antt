@@ -8,7 +8,7 @@ use Rattle.reception.specs.Allowance.{AsSentIsWithinTheAllowance}
 use Rattle.reception.specs.Finished.{WhatIsFinishedStays}
 use Rattle.reception.specs.Recovery.{IdleBringsItBack}
 use Rattle.reception.specs.Gaps.{CarrierUpMakesItReady}
-use Rattle.reception.specs.Sent.{WhatIsSentThenIsReceived, WhatIsReceivedIsReported, UndamagedComesBack}
+use Rattle.reception.specs.Sent.{WhatIsSentThenIsReceived, AGapBehindLeavesItClear, WhatIsReceivedIsReported, UndamagedComesBack}
 use Rattle.reception.specs.Told.{CorrectionsAreAmongTheCodeblocks, AReportTellsTheCodeblocksHeld, ACandidateIsOpenJustInDecode}
 use Rattle.reception.specs.Joined.{RunsAreJoined}
 
@@ -17,6 +17,7 @@ pub record Promise (settings : Settings) (showing : Showing) : Type 0 where
   pub stays : WhatIsFinishedStays settings showing
   pub back : IdleBringsItBack settings showing
   pub received : (randomizer : Randomizer) → WhatIsSentThenIsReceived settings showing randomizer
+  pub behind : (randomizer : Randomizer) → AGapBehindLeavesItClear settings showing randomizer
   pub reported : (randomizer : Randomizer) → WhatIsReceivedIsReported settings showing randomizer
   pub within : (randomizer : Randomizer) → AsSentIsWithinTheAllowance settings randomizer
   pub undamaged : (randomizer : Randomizer) → UndamagedComesBack settings showing randomizer

@@ -181,7 +181,8 @@ pub record IsStep
   pub its_frames : frames ≡ (step before.settings before.standing call).frames
   pub frame_memory : FrameMemoryOfOctets call
 
--- a session that stands so after these calls from its making on
+-- a session that stands where these calls lead from a making, with frame memories of octets. That just these were made
+-- is not said by it: what a session's calls put on the carrier is told call by call
 pub record StandsAfter (calls : List Call) (now : Session) : Type 0 where
   pub standing : now.standing ≡ standing_after now.settings calls
   pub frame_memory : AllByRecursion FrameMemoryOfOctets calls

@@ -15,3 +15,6 @@ returns-clause-received g c used fits =
     c.args.receiver.now c.hear.new.receiver c.args.reports.now c.hear.new.reports front.promise over
     front.written.written front.written.fit (accepted _ _ c.in_ok-carrier_up.ensures.answer) ran
     (c.hear.ensures.in_use (used_on hold _ _ _ c.carrier_up.ensures.after used)) used fits
+
+pub returns-clause-in_use : goal.returns-clause-in_use
+returns-clause-in_use g c used = c.hear.ensures.in_use (used_on g.H.Hold _ _ _ c.carrier_up.ensures.after used)

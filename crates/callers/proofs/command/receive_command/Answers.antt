@@ -25,3 +25,6 @@ returns-clause-received g c back frame command enough =
     let used = used_on hold _ _ _ c.symbols.ensures.after (c.release_all.ensures.in_use back.in_use) in
     let received = commanded hold frame c.args.symbols.now c.args.receiver.now c.symbols.new.self _ _ runs back command ran used in
     (copied_in_front frame _ _ _ _ received.0 enough c.copy_oldest.ensures.answer c.copy_oldest.ensures.memory, received.1)
+
+pub returns-clause-in_use : goal.returns-clause-in_use
+returns-clause-in_use g c used = used_on g.H.Hold _ _ _ c.symbols.ensures.after (c.release_all.ensures.in_use used)

@@ -24,3 +24,8 @@ returns-clause-back g c used enough =
     let after = used_on hold _ _ _ c.symbols-2.ensures.after (used_on hold _ _ _ c.release.ensures.after (used_on hold _ _ _ c.symbols.ensures.after used)) in
     back_in_search hold c.args.first (length c.args.memory.now) c.args.receiver.now c.symbols-2.new.self c.args.reports.now c.symbols-2.new.reports
     runs (returns-clause-ran g c) (runs.was_up c.args.receiver.now (accepted _ _ c.in_ok-carrier_is_up.ensures)) after used enough
+
+pub returns-clause-in_use : goal.returns-clause-in_use
+returns-clause-in_use g c used =
+    let hold = g.H.Hold in
+    used_on hold _ _ _ c.symbols-2.ensures.after (used_on hold _ _ _ c.release.ensures.after (used_on hold _ _ _ c.symbols.ensures.after used))
