@@ -257,29 +257,32 @@ module _ (settings : Settings) (showing : Showing) (randomizer : Randomizer) whe
       (octets_stay_octets randomizer 0 (filled t.frame) (under_filled t.frame well.octets)) well.carrier well.symbols well.within
       (subst (λ u. length t.received.blocks ≤ room u.held) is well.space))
 
+  -- CLTUs that all came in, with an empty window behind them
   pub record AllIn (s : State) (ts : List Transmission) : Type 0 where
-    pub clear : Clear (run s (events_of ts)).phase (run s (events_of ts)).held
+    pub hold : Held
+    pub after : run s (events_of ts) ≡ state (SEARCH 0 0) hold
+    pub opened : hold.opened ≡ None
     pub new : news s (events_of ts) ≡ map (λ t. shown_from showing 0 (information_sent randomizer t)) ts
     pub told : tells s (events_of ts) ≡ map (told_of randomizer) ts
 
   abbrev ClearState : State → Type 0
   ClearState s = Clear s.phase s.held
 
-  none_follows : (h : Held) → h.opened ≡ None → AllIn (state (SEARCH 0 0) h) []
-  none_follows h none = record { clear = (none, (true, empty_window settings showing true)); new = refl; told = refl }
+  cleared : (s : State) (ts : List Transmission) → AllIn s ts → ClearState (run s (events_of ts))
+  cleared s ts all = subst ClearState (sym all.after) (all.opened, (true, empty_window settings showing true))
 
   -- a CLTU, and those behind it
-  joined_to : (s : State) (t : Transmission) (ts : List Transmission) (h : Held) → run s t.events ≡ state (SEARCH 0 0) h → news s t.events ≡ shown_from showing 0 (information_sent randomizer t) ∷ [] → tells s t.events ≡ told_of randomizer t ∷ [] → AllIn (state (SEARCH 0 0) h) ts →
-      (ClearState (run s (t.events ++ events_of ts))) × (news s (t.events ++ events_of ts) ≡ map (λ u. shown_from showing 0 (information_sent randomizer u)) (t ∷ ts))
+  joined_to : (s : State) (t : Transmission) (ts : List Transmission) (h : Held) → run s t.events ≡ state (SEARCH 0 0) h → news s t.events ≡ shown_from showing 0 (information_sent randomizer t) ∷ [] → tells s t.events ≡ told_of randomizer t ∷ [] → (rest : AllIn (state (SEARCH 0 0) h) ts) →
+      (run s (t.events ++ events_of ts) ≡ state (SEARCH 0 0) rest.hold) × (news s (t.events ++ events_of ts) ≡ map (λ u. shown_from showing 0 (information_sent randomizer u)) (t ∷ ts))
       × (tells s (t.events ++ events_of ts) ≡ map (told_of randomizer) (t ∷ ts))
   joined_to s t ts h after new told rest = (
-    subst ClearState (sym (after_append settings showing t.events (events_of ts) s ∙ ap (λ u. run u (events_of ts)) after)) rest.clear,
+    after_append settings showing t.events (events_of ts) s ∙ ap (λ u. run u (events_of ts)) after ∙ rest.after,
     new_append settings showing t.events (events_of ts) s ∙ ap₂ (λ (l : List Candidate) (u : State). l ++ news u (events_of ts)) new after ∙ ap (λ l. shown_from showing 0 (information_sent randomizer t) ∷ l) rest.new,
     reports_append settings showing t.events (events_of ts) s ∙ ap₂ (λ (l : List Report) (u : State). l ++ tells u (events_of ts)) told after ∙ ap (λ l. told_of randomizer t ∷ l) rest.told,
   )
 
   all_follow : (ts : List Transmission) (h : Held) → h.opened ≡ None → FollowOneAnother settings showing randomizer (state (SEARCH 0 0) h) ts → AllIn (state (SEARCH 0 0) h) ts
-  all_follow [] h none follow = none_follows h none
+  all_follow [] h none follow = record { hold = h; after = refl; opened = none; new = refl; told = refl }
   all_follow (t ∷ ts) h none follow =
       let s = state (SEARCH 0 0) h in
       let gap = gap_comes settings showing t.gap h none follow.0 in
@@ -288,14 +291,15 @@ module _ (settings : Settings) (showing : Showing) (randomizer : Randomizer) whe
       let rest = all_follow ts one.hold one.opened (subst (λ u. FollowOneAnother settings showing randomizer u ts) one.goes.after follow.2) in
       let both = joined_to there t ts one.hold one.goes.after one.goes.news one.goes.reports rest in
       record {
-        clear = subst ClearState (sym (after_append settings showing t.gap (t.events ++ events_of ts) s)) both.0;
+        hold = rest.hold;
+        after = after_append settings showing t.gap (t.events ++ events_of ts) s ∙ both.0;
+        opened = rest.opened;
         new = new_append settings showing t.gap (t.events ++ events_of ts) s ∙ ap (λ l. l ++ news there (t.events ++ events_of ts)) gap.new ∙ both.1;
         told = reports_append settings showing t.gap (t.events ++ events_of ts) s ∙ ap (λ l. l ++ tells there (t.events ++ events_of ts)) gap.told ∙ both.2;
       }
 
-  all_sent : (ts : List Transmission) (s : State) → ClearState s → SentFrom settings showing randomizer s ts → AllIn s ts
-  all_sent [] s clear sent = record { clear = clear; new = refl; told = refl }
-  all_sent (t ∷ ts) s clear sent = by s.phase s.held clear refl
+  all_sent : (t : Transmission) (ts : List Transmission) (s : State) → ClearState s → SentFrom settings showing randomizer s (t ∷ ts) → AllIn s (t ∷ ts)
+  all_sent t ts s clear sent = by s.phase s.held clear refl
     where
       by : (p : Phase) (h : Held) → Clear p h → s ≡ state p h → AllIn s (t ∷ ts)
       by INACTIVE h c is = absurd c
@@ -305,46 +309,15 @@ module _ (settings : Settings) (showing : Showing) (randomizer : Randomizer) whe
           let rest = all_follow ts one.hold one.opened (subst (λ u. FollowOneAnother settings showing randomizer u ts) one.goes.after sent.2) in
           let both = joined_to s t ts one.hold one.goes.after one.goes.news one.goes.reports rest in
           let at_once = ap (λ l. l ++ (t.events ++ events_of ts)) sent.0 in
-          record { clear = subst (λ l. ClearState (run s l)) (sym at_once) both.0; new = ap (news s) at_once ∙ both.1; told = ap (tells s) at_once ∙ both.2 }
-
-  record EndsEmpty (s : State) (es : List Event) : Type 0 where
-    hold : Held
-    after : run s es ≡ state (SEARCH 0 0) hold
-    opened : hold.opened ≡ None
-
-  all_end : (ts : List Transmission) (h : Held) → h.opened ≡ None → FollowOneAnother settings showing randomizer (state (SEARCH 0 0) h) ts → EndsEmpty (state (SEARCH 0 0) h) (events_of ts)
-  all_end [] h none follow = record { hold = h; after = refl; opened = none }
-  all_end (t ∷ ts) h none follow =
-      let s = state (SEARCH 0 0) h in
-      let gap = gap_comes settings showing t.gap h none follow.0 in
-      let there = run s t.gap in
-      let one = one_well_sent there gap.next gap.count gap.window gap.hold t gap.after gap.opened gap.calm follow.1 in
-      let rest = all_end ts one.hold one.opened (subst (λ u. FollowOneAnother settings showing randomizer u ts) one.goes.after follow.2) in
-      record {
-        hold = rest.hold;
-        after = after_append settings showing t.gap (t.events ++ events_of ts) s ∙ after_append settings showing t.events (events_of ts) there ∙ ap (λ u. run u (events_of ts)) one.goes.after ∙ rest.after;
-        opened = rest.opened;
-      }
+          record { hold = rest.hold; after = ap (run s) at_once ∙ both.0; opened = rest.opened; new = ap (news s) at_once ∙ both.1; told = ap (tells s) at_once ∙ both.2 }
 
   pub a_gap_behind_leaves_it_clear : AGapBehindLeavesItClear settings showing randomizer
-  a_gap_behind_leaves_it_clear hold earlier gap first more clear sent lies = by then.phase then.held clear refl
-    where
-      then : State
-      then = after_events settings showing (made hold) earlier
-
-      last : State
-      last = run then (events_of (first ∷ more) ++ gap)
-
-      by : (p : Phase) (h : Held) → Clear p h → then ≡ state p h → Clear last.phase last.held
-      by INACTIVE h c is = absurd c
-      by (DECODE r) h c is = absurd c
-      by (SEARCH count window) h c is =
-          let one = one_well_sent then c.1.0 count window h first is c.0 c.1.1 sent.1 in
-          let rest = all_end more one.hold one.opened (subst (λ u. FollowOneAnother settings showing randomizer u more) one.goes.after sent.2) in
-          let w = gap_comes settings showing gap rest.hold rest.opened lies in
-          let all = ap (λ l. run then (l ++ (first.events ++ events_of more))) sent.0 ∙ after_append settings showing first.events (events_of more) then ∙ ap (λ u. run u (events_of more)) one.goes.after ∙ rest.after in
-          let there = after_append settings showing (events_of (first ∷ more)) gap then ∙ ap (λ u. run u gap) all ∙ w.after in
-          subst (λ u. Clear u.phase u.held) (sym there) (w.opened, (w.next, w.calm))
+  a_gap_behind_leaves_it_clear hold earlier gap first more clear sent lies =
+      let then = run (made hold) earlier in
+      let all = all_sent first more then clear sent in
+      let w = gap_comes settings showing gap all.hold all.opened lies in
+      let there = after_append settings showing (events_of (first ∷ more)) gap then ∙ ap (λ u. run u gap) all.after ∙ w.after in
+      subst ClearState (sym there) (w.opened, (w.next, w.calm))
 
   -- every frame that is followed has octets
   OctetsAll : List Transmission → Type 0
@@ -368,10 +341,12 @@ module _ (settings : Settings) (showing : Showing) (randomizer : Randomizer) whe
       ap₂ ◌∷◌ (shown_back showing randomizer matches 0 (filled t.frame) (under_filled t.frame octets.0)) (shown_as_filled ts octets.1 matches)
 
   pub what_is_sent_then_is_received : WhatIsSentThenIsReceived settings showing randomizer
-  what_is_sent_then_is_received hold earlier sent clear from =
+  what_is_sent_then_is_received hold earlier [] clear from = (clear, refl, λ matches. refl)
+  what_is_sent_then_is_received hold earlier (t ∷ ts) clear from =
       let then = run (made hold) earlier in
-      let all = all_sent sent then clear from in
-      (all.clear, all.new, λ matches. all.new ∙ shown_as_filled sent (sent_octets sent then from) matches)
+      let all = all_sent t ts then clear from in
+      (cleared then (t ∷ ts) all, all.new, λ matches. all.new ∙ shown_as_filled (t ∷ ts) (sent_octets (t ∷ ts) then from) matches)
 
   pub what_is_received_is_reported : WhatIsReceivedIsReported settings showing randomizer
-  what_is_received_is_reported hold earlier sent clear from = (all_sent sent (run (made hold) earlier) clear from).told
+  what_is_received_is_reported hold earlier [] clear from = refl
+  what_is_received_is_reported hold earlier (t ∷ ts) clear from = (all_sent t ts (run (made hold) earlier) clear from).told
