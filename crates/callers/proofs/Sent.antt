@@ -17,7 +17,7 @@ use Rattle.session.specs.declared.Silent.{Silent}
 use Rattle.session.specs.Writing.{parameters_of, memory_after, idle_answer}
 use Rattle.session.specs.Calls.{MadeWith, locked_with, acquired}
 use Rattle.callers.specs.declared.both_ends.SenderSettings.{SenderSettings}
-use Rattle.callers.specs.BothEnds.{and_then, frame_answer, octets_after, acquisition_answer, first_answer, two_answer, octets_written, parameters, two_frames, two_octets, SentInFront, SentBehind, IsStretchInFront}
+use Rattle.callers.specs.BothEnds.{and_then, frame_answer, octets_after, acquisition_answer, first_answer, two_answer, octets_written, memory_after_two, parameters, two_frames, two_octets, SentInFront, SentBehind, IsStretchInFront}
 use Rattle.callers.proofs.Answered.{acquiring_counts}
 
 module _ (w n k : ℕ) (memory part : List ℕ) (within : w ≤ length memory) (there : n ≤ length part) where
@@ -208,8 +208,7 @@ module _ (sender : SenderSettings) (acquisition sent : ℕ) (first second memory
 
   -- the second frame is refused, and leaves the memory as it is
   pub second_refused : (why : Refusal) (now : List ℕ) → Err why ≡ two_answer sender acquisition first second memory → now ≡ mid →
-      let octets = octets_written sender acquisition first second memory in
-      now ≡ take octets (two_octets sender acquisition first second) ++ drop octets memory
+      now ≡ memory_after_two sender acquisition first second memory
   second_refused why now is kept =
       kept ∙ as_far (parameters sender) acquisition sent (sends first ∷ idles 0 ∷ []) (sends second ∷ idles 0 ∷ []) memory mid so_far.reached
       ∙ ap (λ n. take n (two_octets sender acquisition first second) ++ drop n memory) (sym (two_written (Err why) is))
@@ -223,8 +222,7 @@ module _ (sender : SenderSettings) (acquisition sent : ℕ) (first second memory
         (subst (λ p. Reached p acquisition (sends first ∷ idles 0 ∷ []) memory mid sent) (sym so_far.parameters-are) so_far.reached))
 
     pub both_in_memory : Ok last ≡ two_answer sender acquisition first second memory →
-        let octets = octets_written sender acquisition first second memory in
-        now ≡ take octets (two_octets sender acquisition first second) ++ drop octets memory
+        now ≡ memory_after_two sender acquisition first second memory
     both_in_memory is =
         as_far (parameters sender) acquisition last (two_frames first second) [] memory now both_reached
         ∙ ap (λ n. take n (two_octets sender acquisition first second) ++ drop n memory) (sym (two_written (Ok last) is))

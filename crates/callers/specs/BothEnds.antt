@@ -27,12 +27,11 @@ parameters sender = record { plop = Two; randomizer = sender.randomizer; idle = 
 abbrev pub two_frames : (first second : List ℕ) → List Writing
 two_frames first second = sends first ∷ idles 0 ∷ sends second ∷ idles 0 ∷ []
 
--- an acquisition and both of them
+-- the stretch of an acquisition and both frames
 abbrev pub two_octets : SenderSettings → (acquisition : ℕ) → (first second : List ℕ) → List ℕ
-two_octets sender acquisition first second =
-    stretch_octets (parameters sender) acquisition (two_frames first second)
+two_octets sender acquisition first second = stretch_octets (parameters sender) acquisition (two_frames first second)
 
--- so many octets in front of the memory are these, and the frames are within the sender's limit
+-- so many octets in front of the memory are that stretch, and the frames are within the sender's limit
 pub record IsStretchInFront
     (sender : SenderSettings) (acquisition : ℕ) (first second now : List ℕ) (octets : ℕ) : Type 0 where
   pub within : octets ≤ length now
@@ -104,6 +103,10 @@ module _ (sender : SenderSettings) (acquisition : ℕ) (first second memory : Li
   -- how many octets are written by those of them that are not refused
   abbrev pub octets_written : ℕ
   octets_written = octets_after (octets_after (octets_after 0 acquisition_answer) first_answer) two_answer
+
+  -- that many octets of the stretch in front of the memory, and the rest as it was
+  abbrev pub memory_after_two : List ℕ
+  memory_after_two = take octets_written (two_octets sender acquisition first second) ++ drop octets_written memory
 
 -- what a call counts that also answers where the session is
 abbrev pub counted : Result (Locked × ℕ) Refusal → Result ℕ Refusal

@@ -1,4 +1,4 @@
-ghost use Rattle.std.specs.Prelude.{◌≡◌, ◌≤◌, [], ◌∷◌, ◌++◌, length, take, drop, IfOk, OnOk, OnErr};
+ghost use Rattle.std.specs.Prelude.{◌≡◌, ◌≤◌, [], ◌∷◌, ◌++◌, length, take, IfOk, OnOk, OnErr};
 ghost use Rattle.bch.specs.Bits.{octet_bits, bits_of};
 ghost use Rattle.procedures.specs.Reception.{SessionPromise};
 ghost use Rattle.cltu.specs.Cltu.{filled};
@@ -8,7 +8,7 @@ ghost use Rattle.receiver.specs.Meaning.{held_by, state_of};
 ghost use Rattle.receiver.specs.Events.{Ran};
 ghost use Rattle.receiver.specs.Joined.{PromiseOverCalls};
 ghost use Rattle.callers.specs.InUse.{InUse, BackInSearch};
-ghost use Rattle.callers.specs.BothEnds.{raised_for, and_then, frame_answer, two_octets, two_answer, octets_written, counted, SentInFront, SentBehind, IsStretchInFront, FitsTheSender};
+ghost use Rattle.callers.specs.BothEnds.{raised_for, and_then, frame_answer, two_answer, memory_after_two, counted, SentInFront, SentBehind, IsStretchInFront, FitsTheSender};
 
 use hold::Hold;
 use procedures::{IdleOctet, Plop};
@@ -34,8 +34,9 @@ pub struct SenderSettings {
 /// both frames into the memory, and the receiver, whose carrier goes up for it, hears the bits of these octets. Answers
 /// how many octets these are.
 /// Refused as the session's calls are, in their order, and with 5 where the receiver is not INACTIVE; then the
-/// receiver and the queue are as they were. What the calls wrote that came before the refusal stands in front of
-/// the memory, and the rest of the memory is as it was, refused or not.
+/// receiver and the queue are as they were. What was written before a refusal stands in front of the memory: nothing,
+/// the acquisition, it and the first CLTU with the idle octet behind, or all of it. The rest of the memory is as it
+/// was, refused or not.
 pub fn send_two<H: Hold>(
     settings: SenderSettings,
     acquisition: usize,
@@ -47,8 +48,7 @@ pub fn send_two<H: Hold>(
 ) -> Result<usize, Refusal>
     ensures answer { result ≡ and_then (two_answer settings acquisition first.now second.now memory.old)
         (answered (refused_if_up (state_of H.Hold receiver.old).phase)) }
-    ensures memory { let octets = octets_written settings acquisition first.now second.now memory.old in
-        memory.new ≡ take octets (two_octets settings acquisition first.now second.now) ++ drop octets memory.old }
+    ensures memory { memory.new ≡ memory_after_two settings acquisition first.now second.now memory.old }
     ensures written { IfOk result (λ octets.
         IsStretchInFront settings acquisition first.now second.now memory.new octets) }
     ensures heard { IfOk result (λ octets.
@@ -75,8 +75,7 @@ fn write_two(
     memory: &mut [u8],
 ) -> Result<usize, Refusal>
     ensures answer { result ≡ two_answer settings acquisition first.now second.now memory.old }
-    ensures memory { let octets = octets_written settings acquisition first.now second.now memory.old in
-        memory.new ≡ take octets (two_octets settings acquisition first.now second.now) ++ drop octets memory.old }
+    ensures memory { memory.new ≡ memory_after_two settings acquisition first.now second.now memory.old }
     ensures written { IfOk result (λ octets.
         IsStretchInFront settings acquisition first.now second.now memory.new octets) }
     ensures promise { IfOk result (λ _. SessionPromise) }
