@@ -27,13 +27,15 @@ parameters sender = record { plop = Two; randomizer = sender.randomizer; idle = 
 abbrev pub two_frames : (first second : List ℕ) → List Writing
 two_frames first second = sends first ∷ idles 0 ∷ sends second ∷ idles 0 ∷ []
 
--- so many octets in front of the memory are the stretch, whose frames are within the sender's limit, and the rest is as
--- it was
+-- the stretch of an acquisition and both frames
+abbrev pub two_octets : SenderSettings → (acquisition : ℕ) → (first second : List ℕ) → List ℕ
+two_octets sender acquisition first second = stretch_octets (parameters sender) acquisition (two_frames first second)
+
+-- so many octets in front of the memory are that stretch, and the frames are within the sender's limit
 pub record IsStretchInFront
-    (sender : SenderSettings) (acquisition : ℕ) (first second memory now : List ℕ) (octets : ℕ) : Type 0 where
+    (sender : SenderSettings) (acquisition : ℕ) (first second now : List ℕ) (octets : ℕ) : Type 0 where
   pub within : octets ≤ length now
-  pub written : take octets now ≡ stretch_octets (parameters sender) acquisition (two_frames first second)
-  pub rest : drop octets now ≡ drop octets memory
+  pub written : take octets now ≡ two_octets sender acquisition first second
   pub fit : FramesWithin sender.«limit» (first ∷ second ∷ [])
 
 -- the carrier goes up, and these octets are heard
@@ -81,12 +83,30 @@ frame_answer limit settings memory frame written =
     (cond (nat_lt memory (written + length (sent_octets settings frame))) (Err MemoryTooShort)
     (Ok (written + length (sent_octets settings frame))))
 
--- the making of the session, the acquisition, and the frames in their order
-abbrev pub two_answer : SenderSettings → (acquisition : ℕ) → (first second memory : List ℕ) → Result ℕ Refusal
-two_answer sender acquisition first second memory =
-    let frame = frame_answer sender.«limit» (parameters sender) (length memory) in
-    and_then (limit_answer sender.«limit») (λ _.
-    and_then (idle_answer 16 255 acquisition memory) (λ written. and_then (frame first written) (frame second)))
+-- how many octets are written after a call: what it counts, or where it is refused as many as before
+abbrev pub octets_after : (before : ℕ) → Result ℕ Refusal → ℕ
+octets_after before (Ok count) = count
+octets_after before (Err why) = before
+
+-- what the session's calls answer, each behind the ones before
+module _ (sender : SenderSettings) (acquisition : ℕ) (first second memory : List ℕ) where
+  -- its making and the acquisition
+  abbrev pub acquisition_answer : Result ℕ Refusal
+  acquisition_answer = and_then (limit_answer sender.«limit») (λ _. idle_answer 16 255 acquisition memory)
+
+  abbrev pub first_answer : Result ℕ Refusal
+  first_answer = and_then acquisition_answer (frame_answer sender.«limit» (parameters sender) (length memory) first)
+
+  abbrev pub two_answer : Result ℕ Refusal
+  two_answer = and_then first_answer (frame_answer sender.«limit» (parameters sender) (length memory) second)
+
+  -- how many octets are written by those of them that are not refused
+  abbrev pub octets_written : ℕ
+  octets_written = octets_after (octets_after (octets_after 0 acquisition_answer) first_answer) two_answer
+
+  -- that many octets of the stretch in front of the memory, and the rest as it was
+  abbrev pub memory_after_two : List ℕ
+  memory_after_two = take octets_written (two_octets sender acquisition first second) ++ drop octets_written memory
 
 -- what a call counts that also answers where the session is
 abbrev pub counted : Result (Locked × ℕ) Refusal → Result ℕ Refusal

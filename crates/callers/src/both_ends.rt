@@ -8,7 +8,7 @@ ghost use Rattle.receiver.specs.Meaning.{held_by, state_of};
 ghost use Rattle.receiver.specs.Events.{Ran};
 ghost use Rattle.receiver.specs.Joined.{PromiseOverCalls};
 ghost use Rattle.callers.specs.InUse.{InUse, BackInSearch};
-ghost use Rattle.callers.specs.BothEnds.{raised_for, and_then, frame_answer, two_answer, counted, SentInFront, SentBehind, IsStretchInFront, FitsTheSender};
+ghost use Rattle.callers.specs.BothEnds.{raised_for, and_then, frame_answer, two_answer, memory_after_two, counted, SentInFront, SentBehind, IsStretchInFront, FitsTheSender};
 
 use hold::Hold;
 use procedures::{IdleOctet, Plop};
@@ -34,7 +34,9 @@ pub struct SenderSettings {
 /// both frames into the memory, and the receiver, whose carrier goes up for it, hears the bits of these octets. Answers
 /// how many octets these are.
 /// Refused as the session's calls are, in their order, and with 5 where the receiver is not INACTIVE; then the
-/// receiver and the queue are as they were, and the memory may hold what was written until then.
+/// receiver and the queue are as they were. What was written before a refusal stands in front of the memory: nothing,
+/// the acquisition, it and the first CLTU with the idle octet behind, or all of it. The rest of the memory is as it
+/// was, refused or not.
 pub fn send_two<H: Hold>(
     settings: SenderSettings,
     acquisition: usize,
@@ -46,8 +48,9 @@ pub fn send_two<H: Hold>(
 ) -> Result<usize, Refusal>
     ensures answer { result ≡ and_then (two_answer settings acquisition first.now second.now memory.old)
         (answered (refused_if_up (state_of H.Hold receiver.old).phase)) }
+    ensures memory { memory.new ≡ memory_after_two settings acquisition first.now second.now memory.old }
     ensures written { IfOk result (λ octets.
-        IsStretchInFront settings acquisition first.now second.now memory.old memory.new octets) }
+        IsStretchInFront settings acquisition first.now second.now memory.new octets) }
     ensures heard { IfOk result (λ octets.
         Ran H.Hold (raised_for (take octets memory.new)) receiver.old receiver.new reports.old reports.new) }
     ensures received { OnOk result (InUse H.Hold receiver.old →
@@ -73,8 +76,9 @@ fn write_two(
     memory: &mut [u8],
 ) -> Result<usize, Refusal>
     ensures answer { result ≡ two_answer settings acquisition first.now second.now memory.old }
+    ensures memory { memory.new ≡ memory_after_two settings acquisition first.now second.now memory.old }
     ensures written { IfOk result (λ octets.
-        IsStretchInFront settings acquisition first.now second.now memory.old memory.new octets) }
+        IsStretchInFront settings acquisition first.now second.now memory.new octets) }
     ensures promise { IfOk result (λ _. SessionPromise) }
 {
     let session = Silent::new(
@@ -105,6 +109,7 @@ fn send_behind(
         ≡ frame_answer session.settings.sender.limit.count (parameters_of session.settings)
         (length memory.old) frame.now written }
     ensures behind { IfOk result (λ done. SentBehind session frame.now written memory.old memory.new done.0 done.1) }
+    ensures refused { OnErr result (memory.new ≡ memory.old) }
 {
     let (session, sent) = send_frame(session, frame, &mut memory[written..])?;
     Ok((session, written + sent))
@@ -117,6 +122,7 @@ fn send_frame(session: Locked, frame: &[u8], memory: &mut [u8]) -> Result<(Locke
         ≡ frame_answer session.settings.sender.limit.count (parameters_of session.settings)
         (length memory.old) frame.now 0 }
     ensures front { IfOk result (λ done. SentInFront session frame.now memory.old memory.new done.0 done.1) }
+    ensures refused { OnErr result (memory.new ≡ memory.old) }
 {
     let whole = FrameSpan {
         place: 0,
