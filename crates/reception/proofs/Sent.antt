@@ -315,9 +315,11 @@ module _ (settings : Settings) (showing : Showing) (randomizer : Randomizer) whe
   a_gap_behind_leaves_it_clear hold earlier gap first more clear sent lies =
       let then = run (made hold) earlier in
       let all = all_sent first more then clear sent in
-      let w = gap_comes settings showing gap all.hold all.opened lies in
-      let there = after_append settings showing (events_of (first ∷ more)) gap then ∙ ap (λ u. run u gap) all.after ∙ w.after in
-      subst ClearState (sym there) (w.opened, (w.next, w.calm))
+      let w = gap_comes settings showing gap all.hold all.opened lies in (
+        subst ClearState (sym (ap (λ u. run u gap) all.after ∙ w.after)) (w.opened, (w.next, w.calm)),
+        ap (λ u. news u gap) all.after ∙ w.new,
+        ap (λ u. tells u gap) all.after ∙ w.told,
+      )
 
   -- every frame that is followed has octets
   OctetsAll : List Transmission → Type 0

@@ -74,14 +74,16 @@ module _ (settings : Settings) (showing : Showing) (randomizer : Randomizer) whe
       × (Matches showing randomizer →
       new_candidates settings showing then (events_of sent) ≡ map (λ t. filled t.frame) sent)
 
-  -- behind the last of them idle, or a carrier break, leaves it where more may be sent at once
+  -- idle behind the last of them, or a carrier break, brings nothing, and leaves it where more may be sent at once
   abbrev pub AGapBehindLeavesItClear : Type 0
   AGapBehindLeavesItClear =
       (hold : Held) (earlier gap : List Event) (first : Transmission) (more : List Transmission) →
       let then = after_events settings showing (made hold) earlier in
-      let last = after_events settings showing then (events_of (first ∷ more) ++ gap) in
+      let behind = after_events settings showing then (events_of (first ∷ more)) in
+      let last = after_events settings showing behind gap in
       Clear then.phase then.held → SentFrom then (first ∷ more) → IdleOrNothing gap ⊎ CarrierBreak gap →
       Clear last.phase last.held
+      × (new_candidates settings showing behind gap ≡ []) × (reports_of settings showing behind gap ≡ [])
 
   -- and nothing is reported but each of these CLTUs, in order
   abbrev pub WhatIsReceivedIsReported : Type 0
