@@ -29,9 +29,9 @@ reads_on more further a b c first second =
 
 module _ {A : Type 0} (meaning_of : A → Meaning) (before after : AnsweredLines A) (octets text : List ℕ) (taken : HasTaken meaning_of before octets text) where
   -- a newline comes, and the open line is answered
-  pub newline_taken : (same : after.answering ≡ before.answering) (text_after : List ℕ)
-      → AnswersLine meaning_of before after taken.line text text_after → HasTaken meaning_of after (octets ++ 10 ∷ []) text_after
-  newline_taken same text_after is =
+  pub newline_taken : (same : after.answering ≡ before.answering) (more : List ℕ)
+      → AnswersLine meaning_of before after taken.line more → HasTaken meaning_of after (octets ++ 10 ∷ []) (text ++ more)
+  newline_taken same more is =
       let meaning = meaning_of before.answering in
       let same_meaning : meaning_of after.answering ≡ meaning = ap meaning_of same in
       record {
@@ -49,14 +49,14 @@ module _ {A : Type 0} (meaning_of : A → Meaning) (before after : AnsweredLines
         lines_are = is.lines_more ∙ ap (λ n. n + 1) taken.lines_are ∙ sym (length_more taken.done taken.line);
         counted_are = is.counted_more ∙ ap (λ n. n + line_count meaning taken.line) taken.counted_are ∙ sym (counted_more meaning taken.done taken.line)
             ∙ ap (λ m. counted m (taken.done ++ taken.line ∷ [])) (sym same_meaning);
-        text_is = is.written ∙ ap (λ t. t ++ line_text meaning taken.line) taken.text_is ∙ sym (answers_more meaning taken.done taken.line)
+        text_is = ap (λ t. text ++ t) is.text_is ∙ ap (λ t. t ++ line_text meaning taken.line) taken.text_is ∙ sym (answers_more meaning taken.done taken.line)
             ∙ ap (λ m. answers m (taken.done ++ taken.line ∷ [])) (sym same_meaning);
       }
 
   -- another octet comes: these octets more of the line are read
   pub octet_taken : (x : ℕ) (more : List ℕ) → Reads more before.reader after.reader → more ++ waiting after.last ≡ waiting before.last ++ x ∷ [] → NoNewline more
       → CameLast after.last (taken.line ++ more) → after.answering ≡ before.answering → after.lines ≡ before.lines → after.counted ≡ before.counted
-      → HasTaken meaning_of after (octets ++ x ∷ []) text
+      → HasTaken meaning_of after (octets ++ x ∷ []) (text ++ [])
   octet_taken x more reads joins none last same same_lines same_counted =
       let same_meaning : meaning_of after.answering ≡ meaning_of before.answering = ap meaning_of same in
       let line = taken.line in
@@ -74,7 +74,7 @@ module _ {A : Type 0} (meaning_of : A → Meaning) (before after : AnsweredLines
         most = reads.1 ∙ taken.most ∙ ap (λ m. m.most) (sym same_meaning);
         lines_are = same_lines ∙ taken.lines_are;
         counted_are = same_counted ∙ taken.counted_are ∙ ap (λ m. counted m taken.done) (sym same_meaning);
-        text_is = taken.text_is ∙ ap (λ m. answers m taken.done) (sym same_meaning);
+        text_is = append-nil text ∙ taken.text_is ∙ ap (λ m. answers m taken.done) (sym same_meaning);
       }
 
   at_end : lines_of octets ≡ taken.done ++ open_lines before.last taken.line
@@ -82,20 +82,20 @@ module _ {A : Type 0} (meaning_of : A → Meaning) (before after : AnsweredLines
       ∙ ap (λ l. taken.done ++ l) (ends before.last taken.line taken.no_newline taken.came_last)
 
   -- the end comes, and no line is open
-  pub done_already : before.last ≡ Newline → IsDone meaning_of before octets text
+  pub done_already : before.last ≡ Newline → IsDone meaning_of before octets (text ++ [])
   done_already is =
       let meaning = meaning_of before.answering in
       let lines : lines_of octets ≡ taken.done = at_end ∙ ap (λ last. taken.done ++ open_lines last taken.line) is ∙ append-nil taken.done in
       record {
         lines_are = taken.lines_are ∙ ap length (sym lines);
         counted_are = taken.counted_are ∙ ap (counted meaning) (sym lines);
-        text_is = taken.text_is ∙ ap (answers meaning) (sym lines);
+        text_is = append-nil text ∙ taken.text_is ∙ ap (answers meaning) (sym lines);
       }
 
   -- or the open line is answered
-  pub done_now : (reader : DigitReader) (text_after : List ℕ) → open_lines before.last taken.line ≡ (taken.line ++ waiting before.last) ∷ [] → after.answering ≡ before.answering
-      → AnswersLine meaning_of (record before { reader = reader }) after (taken.line ++ waiting before.last) text text_after → IsDone meaning_of after octets text_after
-  done_now reader text_after opened same is =
+  pub done_now : (reader : DigitReader) (more : List ℕ) → open_lines before.last taken.line ≡ (taken.line ++ waiting before.last) ∷ [] → after.answering ≡ before.answering
+      → AnswersLine meaning_of (record before { reader = reader }) after (taken.line ++ waiting before.last) more → IsDone meaning_of after octets (text ++ more)
+  done_now reader more opened same is =
       let meaning = meaning_of before.answering in
       let same_meaning : meaning_of after.answering ≡ meaning = ap meaning_of same in
       let whole = taken.line ++ waiting before.last in
@@ -104,7 +104,7 @@ module _ {A : Type 0} (meaning_of : A → Meaning) (before after : AnsweredLines
         lines_are = is.lines_more ∙ ap (λ n. n + 1) taken.lines_are ∙ sym (length_more taken.done whole) ∙ ap length (sym lines);
         counted_are = is.counted_more ∙ ap (λ n. n + line_count meaning whole) taken.counted_are ∙ sym (counted_more meaning taken.done whole)
             ∙ ap (counted meaning) (sym lines) ∙ ap (λ m. counted m (lines_of octets)) (sym same_meaning);
-        text_is = is.written ∙ ap (λ t. t ++ line_text meaning whole) taken.text_is ∙ sym (answers_more meaning taken.done whole)
+        text_is = ap (λ t. text ++ t) is.text_is ∙ ap (λ t. t ++ line_text meaning whole) taken.text_is ∙ sym (answers_more meaning taken.done whole)
             ∙ ap (answers meaning) (sym lines) ∙ ap (λ m. answers m (lines_of octets)) (sym same_meaning);
       }
 
@@ -116,16 +116,3 @@ printed_is meaning_of after octets text done =
     let lines = lines_of octets in
     ap (λ t. t ++ end_line after.lines after.counted) done.text_is ∙ ap (λ n. answers meaning lines ++ end_line n after.counted) done.lines_are
     ∙ ap (λ n. answers meaning lines ++ end_line (length lines) n) done.counted_are
-
--- an answer that is written behind a text is also written behind one that came before that
-pub answered_behind : {A : Type 0} (meaning_of : A → Meaning) (a b : AnsweredLines A) (line front text text_after : List ℕ)
-    → AnswersLine meaning_of a b line text text_after → AnswersLine meaning_of a b line (front ++ text) (front ++ text_after)
-answered_behind meaning_of a b line front text text_after is =
-    record {
-      written = ap (λ t. front ++ t) is.written ∙ sym (append_assoc front text (line_text (meaning_of a.answering) line));
-      lines_more = is.lines_more;
-      counted_more = is.counted_more;
-      last = is.last;
-      has_read = is.has_read;
-      most = is.most;
-    }

@@ -52,48 +52,52 @@ module _ {A : Type 0} (meaning_of : A → Meaning) (taking : AnsweredLines A) (o
     pub counted_are : taking.counted ≡ counted (meaning_of taking.answering) (lines_of octets)
     pub text_is : text ≡ answers (meaning_of taking.answering) (lines_of octets)
 
--- the answer of a line is written behind a text, and counts so many
-pub record TellsLine (meaning : Meaning) (line text text_after : List ℕ) (count : ℕ) : Type 0 where
-  pub written : text_after ≡ text ++ line_text meaning line
+-- more is written behind a text, whatever that is, and this holds of it
+abbrev pub WritesMore : (text text_after : List ℕ) → (List ℕ → Type 0) → Type 0
+WritesMore text text_after Holds = (more : List ℕ) × (text_after ≡ text ++ more) × Holds more
+
+-- this is the answer of a line, and counts so many
+pub record TellsLine (meaning : Meaning) (line text : List ℕ) (count : ℕ) : Type 0 where
+  pub text_is : text ≡ line_text meaning line
   pub count_is : count ≡ line_count meaning line
 
 module _ {A : Type 0} (meaning_of : A → Meaning) (before after : AnsweredLines A) where
-  -- a line is answered and counted, and none is open
-  pub record AnswersLine (line text text_after : List ℕ) : Type 0 where
-    pub written : text_after ≡ text ++ line_text (meaning_of before.answering) line
+  -- a line is answered by this text and counted, and none is open
+  pub record AnswersLine (line text : List ℕ) : Type 0 where
+    pub text_is : text ≡ line_text (meaning_of before.answering) line
     pub lines_more : after.lines ≡ before.lines + 1
     pub counted_more : after.counted ≡ before.counted + line_count (meaning_of before.answering) line
     pub last : after.last ≡ Newline
     pub has_read : HasRead after.reader []
     pub most : most_kept after.reader ≡ most_kept before.reader
 
-  -- further octets come, whatever came before them, and behind its text the answers of the lines that end in them
+  -- further octets come, whatever came and was answered before them, and the answers of the lines that end in them are
+  -- written behind the text
   abbrev pub Takes : (further text text_after : List ℕ) → Type 0
-  Takes further text text_after =
-      (octets front : List ℕ) → HasTaken meaning_of before octets (front ++ text)
-      → HasTaken meaning_of after (octets ++ further) (front ++ text_after)
+  Takes further text text_after = WritesMore text text_after (λ more.
+      (octets all : List ℕ) → HasTaken meaning_of before octets all
+      → HasTaken meaning_of after (octets ++ further) (all ++ more))
 
-  -- what is read is answered as a line
+  -- what is read is answered as a line, behind the text
   abbrev pub AnswersWhatIsRead : (text text_after : List ℕ) → Type 0
-  AnswersWhatIsRead text text_after =
+  AnswersWhatIsRead text text_after = WritesMore text text_after (λ more.
       (line : List ℕ) → HasRead before.reader line → most_kept before.reader ≡ (meaning_of before.answering).most
-      → AnswersLine line text text_after
+      → AnswersLine line more)
 
 module _ {A : Type 0} (meaning_of : A → Meaning) (taking : AnsweredLines A) where
-  -- the answer of what is read is written, and counts so many
+  -- the answer of what is read is written behind the text, and counts so many
   abbrev pub TellsWhatIsRead : (text text_after : List ℕ) (count : ℕ) → Type 0
-  TellsWhatIsRead text text_after count =
+  TellsWhatIsRead text text_after count = WritesMore text text_after (λ more.
       (line : List ℕ) → HasRead taking.reader line → most_kept taking.reader ≡ (meaning_of taking.answering).most
-      → TellsLine (meaning_of taking.answering) line text text_after count
+      → TellsLine (meaning_of taking.answering) line more count)
 
-  -- nothing comes any more, whatever came: behind its text stand the answers of its lines
+  -- nothing comes any more, whatever came and was answered: what is still to be answered is, behind the text
   abbrev pub EndsWith : (after : AnsweredLines A) (text text_after : List ℕ) → Type 0
-  EndsWith after text text_after =
-      (octets front : List ℕ) → HasTaken meaning_of taking octets (front ++ text)
-      → IsDone meaning_of after octets (front ++ text_after)
+  EndsWith after text text_after = WritesMore text text_after (λ more.
+      (octets all : List ℕ) → HasTaken meaning_of taking octets all → IsDone meaning_of after octets (all ++ more))
 
-  -- and the line for the end: all is printed
+  -- and so is the line for the end: all is printed
   abbrev pub PrintsToTheEnd : (text text_after : List ℕ) → Type 0
-  PrintsToTheEnd text text_after =
-      (octets front : List ℕ) → HasTaken meaning_of taking octets (front ++ text)
-      → front ++ text_after ≡ printed (meaning_of taking.answering) octets
+  PrintsToTheEnd text text_after = WritesMore text text_after (λ more.
+      (octets all : List ℕ) → HasTaken meaning_of taking octets all
+      → all ++ more ≡ printed (meaning_of taking.answering) octets)

@@ -93,7 +93,7 @@ impl<A: Answering> AnsweredLines<A> {
             (string_bytes text.old) (string_bytes text.new)) }
     {
         if octet == b'\n' {
-            self.end_line(heap, text)?;
+            self.answer_line(heap, text)?;
             return Ok(());
         }
         self.read_return()?;
@@ -118,7 +118,7 @@ impl<A: Answering> AnsweredLines<A> {
     }
 
     // Answers what is read as a line, and opens none.
-    fn end_line(&mut self, heap: Global, text: &mut String) -> Result<(), LinesError>
+    fn answer_line(&mut self, heap: Global, text: &mut String) -> Result<(), LinesError>
         ensures answering { self.new.answering ≡ self.old.answering }
         ensures line { OnOk result (AnswersWhatIsRead A.meaning self.old self.new
             (string_bytes text.old) (string_bytes text.new)) }
@@ -161,7 +161,7 @@ impl<A: Answering> AnsweredLines<A> {
             return Ok(());
         }
         self.read_return()?;
-        self.end_line(heap, text)?;
+        self.answer_line(heap, text)?;
         Ok(())
     }
 }

@@ -1,6 +1,8 @@
 -- What a program's arguments ask it for, and how it ends then. Assumes nothing.
 use Rattle.std.specs.Prelude.{◌≡◌, ◌≤◌, ℕ, List, [], ◌∷◌, Option, Result, Ok, Err}
 use Rattle.std.specs.Fn.{Once, FnOnceReturns, FnOnceReturnsAt}
+use Rattle.std.specs.Process.{exit_status}
+use Rattle.std.specs.declared.process.ExitCode.{ExitCode}
 use denote.Ref.{Bor}
 use Rattle.command_line.specs.declared.ArgumentError.{ArgumentError}
 use Rattle.command_line.specs.declared.Task.{Task}
@@ -19,6 +21,11 @@ Asks reads read unasked (first ∷ others) answer =
 abbrev pub status_of : {A E : Type 0} → Result A E → ℕ
 status_of (Ok _) = 0
 status_of (Err _) = 1
+
+-- the number that a program ends with whose `main` answers this: an error is 1
+abbrev pub ended : {E : Type 0} → Result ExitCode E → ℕ
+ended (Ok code) = exit_status code
+ended (Err _) = 1
 
 -- the status of a program that was asked for this: arguments that ask for nothing are an error, and help may fail to be
 -- printed

@@ -1,11 +1,10 @@
 //! What the programs share: the one argument that each may have, and how a run of one ends.
 #![tactic(auto)]
 
-ghost use Rattle.std.specs.Prelude.{◌≡◌, Result, Some, drop, map, string_bytes, IfOk, MatchResult};
+ghost use Rattle.std.specs.Prelude.{◌≡◌, Result, Some, drop, map, string_bytes, MatchResult};
 ghost use Rattle.std.specs.Vec.Iter.{into_iter_items};
-ghost use Rattle.std.specs.Process.{exit_status};
 ghost use Rattle.command_line.specs.Arguments.{error_text};
-ghost use Rattle.command_line.specs.Asked.{Asks, EndsWith, Ends, status_of};
+ghost use Rattle.command_line.specs.Asked.{Asks, EndsWith, Ends, ended, status_of};
 
 use anyhow::anyhow;
 use std::env::Args;
@@ -64,9 +63,10 @@ pub fn asked<T: Drop, F: FnOnce(&str) -> Option<T>>(
     }
 }
 
-/// The status of a program that did its work, or did not. An error is printed as one line on standard error.
+/// The status of a program that did its work, or did not. An error is printed as one line on standard error. `Err`
+/// comes only where such a line cannot be printed; a program whose `main` answers it ends with 1, too.
 pub fn status<R: Eprint>(rt: &R, done: anyhow::Result<()>) -> anyhow::Result<ExitCode>
-    ensures { IfOk result (λ status. exit_status status ≡ status_of done) }
+    ensures { ended result ≡ status_of done }
 {
     match done {
         Ok(()) => Ok(ExitCode::SUCCESS),
@@ -80,7 +80,7 @@ pub fn status<R: Eprint>(rt: &R, done: anyhow::Result<()>) -> anyhow::Result<Exi
 /// A program as its user calls it.
 #[derive(Clone, Copy)]
 pub struct Program<'a> {
-    /// Its name, with which its errors begin.
+    /// Its name, with which the errors of its arguments begin; no other does.
     pub name: &'a str,
     /// The arguments that it knows, as its errors tell them.
     pub arguments: &'a str,
@@ -91,7 +91,8 @@ pub struct Program<'a> {
 impl Program<'_> {
     /// Runs the program on the words that it was called with, of which the first is its name and the others are
     /// its arguments: its work, or its help. The status is 0 where the work went well, and 1 where it did not,
-    /// where the arguments ask for nothing or could not be read, or where the help could not be printed.
+    /// where the arguments ask for nothing or could not be read, or where the help could not be printed. `Err` is
+    /// counted as 1, with which a program ends whose `main` answers it.
     pub fn run<R, T, F, W>(
         &self,
         rt: &R,
@@ -107,10 +108,10 @@ impl Program<'_> {
         W: FnOnce(T) -> anyhow::Result<()>,
         requires reads { F.IsAlwaysCallable read }
         requires works { W.IsAlwaysCallable work }
-        ensures { IfOk result (λ status. MatchResult words
+        ensures { MatchResult words
             (λ given. Ends F.FnOnce W.FnOnce read work unasked
-            (map string_bytes (drop 1 (into_iter_items given))) (exit_status status))
-            (λ _. exit_status status ≡ 1)) }
+            (map string_bytes (drop 1 (into_iter_items given))) (ended result))
+            (λ _. ended result ≡ 1) }
     {
         match words {
             Ok(mut given) => {
@@ -136,8 +137,8 @@ impl Program<'_> {
         W: FnOnce(T) -> anyhow::Result<()>,
         requires reads { F.IsAlwaysCallable read }
         requires works { W.IsAlwaysCallable work }
-        ensures { IfOk result (λ status. Ends F.FnOnce W.FnOnce read work unasked
-            (map string_bytes (into_iter_items arguments)) (exit_status status)) }
+        ensures { Ends F.FnOnce W.FnOnce read work unasked
+            (map string_bytes (into_iter_items arguments)) (ended result) }
     {
         let task = asked(arguments, unasked, read);
         let done = self.done(rt, task, work);

@@ -1,10 +1,9 @@
 //! `encode`: frames in, CLTUs out, one line each.
 #![tactic(auto)]
 
-use answered_lines::print_answers;
 use cltu::{CodeblockLimit, Sender};
 use command_line::{Program, Task, arguments};
-use encode_lines::EncodeLines;
+use encode_lines::print_cltus;
 use randomizer::Randomizer;
 use std::io;
 use std::process::ExitCode;
@@ -52,13 +51,11 @@ fn main(rt: HostRuntime) -> anyhow::Result<ExitCode> {
         Task::Work(Randomizer::Off),
         asked_task,
         |randomizer| {
-            let lines = EncodeLines {
-                sender: Sender {
-                    limit: CodeblockLimit::most(),
-                    randomizer,
-                },
+            let sender = Sender {
+                limit: CodeblockLimit::most(),
+                randomizer,
             };
-            print_answers(rt.alloc(), lines, &mut rt.stdin(), &mut io::writer(&rt))
+            print_cltus(rt.alloc(), sender, &mut rt.stdin(), &mut io::writer(&rt))
         },
     )
 }

@@ -1,17 +1,19 @@
-//! What the program `encode` answers a frame with, as a line.
+//! What the program `encode` answers a frame with, as a line, and the whole of it but for its arguments.
 #![tactic(auto)]
 
-ghost use Rattle.std.specs.Prelude.{◌≡◌, IfOk, Some};
+ghost use Rattle.std.specs.Prelude.{◌≡◌, IfOk, OnOk, Some};
+ghost use Rattle.answered_lines.specs.Printing.{PrintsAll};
 ghost use Rattle.encode_lines.specs.Lines.{Answers, IsNeverTooShort, answer_text, encode_meaning, outcome, cltus};
 ghost use Rattle.encode_lines.specs.TooLong.{further_octets};
 
-use answered_lines::{Answer, Answering};
+use answered_lines::{Answer, Answering, print_answers};
 use bch::INFORMATION_OCTETS;
 use cltu::{LONGEST_CLTU, LONGEST_FRAME, Sender, codeblocks_for};
 use hexadecimal::capitals;
 use refusals::Refusal;
 use std::alloc::{AllocError, Global};
 use std::fmt;
+use std::io::{Read, Write};
 
 /// The answer to a frame. It prints as a line, without its end.
 #[derive(Debug, Drop)]
@@ -106,6 +108,20 @@ impl Answering for EncodeLines {
     }
 
     ghost further_octets_change_nothing = { λ lines. further_octets lines.sender };
+}
+
+/// Reads lines to the end of the input and prints what this sender answers each with, then the line `end` with how
+/// many lines there were and how many CLTUs.
+pub fn print_cltus<R: Read, W: Write>(
+    heap: Global,
+    sender: Sender,
+    input: &mut R,
+    output: &mut W,
+) -> anyhow::Result<()>
+    ensures { OnOk result (PrintsAll (encode_meaning sender) (R.remaining input.old) (R.remaining input.new)
+        (W.contents output.old) (W.contents output.new)) }
+{
+    print_answers(heap, EncodeLines { sender }, input, output)
 }
 
 #[cfg(test)]

@@ -1,9 +1,8 @@
 //! `frames`: candidates in, the frames and the fill in them out, one line each.
 #![tactic(auto)]
 
-use answered_lines::print_answers;
 use command_line::{Program, Task, arguments};
-use frames_lines::FramesLines;
+use frames_lines::print_items;
 use std::io;
 use std::process::ExitCode;
 
@@ -46,11 +45,6 @@ fn main(rt: HostRuntime) -> anyhow::Result<ExitCode> {
         arguments(&rt),
         Task::Work(()),
         asked_task,
-        |()| print_answers(
-            rt.alloc(),
-            FramesLines,
-            &mut rt.stdin(),
-            &mut io::writer(&rt),
-        ),
+        |()| print_items(rt.alloc(), &mut rt.stdin(), &mut io::writer(&rt)),
     )
 }

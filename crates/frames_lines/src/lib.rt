@@ -1,18 +1,20 @@
-//! What the program `frames` answers a candidate with, as lines.
+//! What the program `frames` answers a candidate with, as lines, and the whole of it but for its arguments.
 #![tactic(auto)]
 
 ghost use Rattle.std.specs.Prelude.{◌+◌, ◌<◌, ◌^◌, [], IfOk, OnOk};
 ghost use Rattle.answered_lines.specs.Answers.{Tells};
+ghost use Rattle.answered_lines.specs.Printing.{PrintsAll};
 ghost use Rattle.cutting.specs.Cutting.{cutting};
 ghost use Rattle.cutting.specs.Items.{part_of};
 ghost use Rattle.frames_lines.specs.Lines.{part_line, refusal_line, cutting_lines, counts_as, frames_in, frames_meaning, further_octets};
 ghost use Rattle.frames_lines.specs.Answers.{Writes};
 
-use answered_lines::{Answer, Answering};
+use answered_lines::{Answer, Answering, print_answers};
 use cutting::{Cutter, Item};
 use hexadecimal::capitals;
 use refusals::Refusal;
 use std::alloc::{AllocError, Global};
+use std::io::{Read, Write};
 
 /// What answers the lines of the program `frames`: each is a candidate. For each item of it there is a line:
 /// `frame` with its place, how many octets it has and these in capital hexadecimal digits, or `fill` with its
@@ -33,6 +35,19 @@ impl Answering for FramesLines {
     }
 
     ghost further_octets_change_nothing = { λ _. further_octets };
+}
+
+/// Reads lines to the end of the input and prints the items of each candidate, then the line `end` with how many
+/// lines there were and how many frames.
+pub fn print_items<R: Read, W: Write>(
+    heap: Global,
+    input: &mut R,
+    output: &mut W,
+) -> anyhow::Result<()>
+    ensures { OnOk result (PrintsAll frames_meaning (R.remaining input.old) (R.remaining input.new)
+        (W.contents output.old) (W.contents output.new)) }
+{
+    print_answers(heap, FramesLines, input, output)
 }
 
 // The answer to a candidate.
@@ -92,8 +107,7 @@ fn write_refusal(refusal: Refusal, answer: &mut Answer) -> Result<(), AllocError
 #[cfg(test)]
 mod tests {
     use super::*;
-    use answered_lines::print_answers;
-    use std::io::{Error, ErrorKind, Read, Result as IoResult};
+    use std::io::{Error, ErrorKind, Result as IoResult};
     use std::test::Fail;
 
     // Gives its octets one by one, and then, if it breaks, an error.
@@ -119,14 +133,14 @@ mod tests {
         let text = "frame 0 5 0001000400\nfill 5 2\nunreadable\nunreadable\nend 4 1\n";
         let mut whole = octets.as_slice();
         let mut written = Vec::new(rt.alloc());
-        print_answers(rt.alloc(), FramesLines, &mut whole, &mut written)?;
+        print_items(rt.alloc(), &mut whole, &mut written)?;
         assert_eq!(rt; written.as_slice(), text.as_bytes());
         let mut drops = Drops {
             octets,
             breaks: false,
         };
         let mut written = Vec::new(rt.alloc());
-        print_answers(rt.alloc(), FramesLines, &mut drops, &mut written)?;
+        print_items(rt.alloc(), &mut drops, &mut written)?;
         assert_eq!(rt; written.as_slice(), text.as_bytes());
         Ok(())
     }
@@ -138,7 +152,7 @@ mod tests {
             breaks: true,
         };
         let mut written = Vec::new(rt.alloc());
-        assert!(rt; print_answers(rt.alloc(), FramesLines, &mut drops, &mut written).is_err());
+        assert!(rt; print_items(rt.alloc(), &mut drops, &mut written).is_err());
         assert_eq!(rt; written.as_slice(), b"unreadable\n".as_slice());
         Ok(())
     }

@@ -3,7 +3,7 @@ use Rattle.std.proofs.Common.{◌≡◌, ℕ, List, [], ◌∷◌, ◌++◌, Opt
 use Rattle.std.specs.Option.{option_map}
 use Rattle.hexadecimal.specs.Text.{digit_value, octet_of, before, octets_written}
 use Rattle.hexadecimal.specs.Kept.{kept}
-use Rattle.hexadecimal.specs.Reading.{Writes, Reads}
+use Rattle.hexadecimal.specs.Reading.{Writes, NothingMends, Reads}
 use Rattle.hexadecimal.specs.declared.digit_reader.Progress.TheVariants.{Half, Unreadable}
 
 map_nothing : (o : Option (List ℕ)) → o ≡ option_map (λ xs. [] ++ xs) o
@@ -41,8 +41,14 @@ unreadable_is_none text none = ap octets_written (sym (append-nil text)) ∙ non
 module _ (most : Option ℕ) (octets text : List ℕ) (byte : ℕ) where
   -- whole octets, and a byte that is no digit
   pub bad_behind_whole : Writes most octets text → digit_value byte ≡ None → Reads Unreadable most octets (text ++ byte ∷ [])
-  bad_behind_whole (all, written, is) none further =
-      ap octets_written (append_assoc text (byte ∷ []) further) ∙ behind_whole text (byte ∷ further) all written ∙ ap (option_map (λ xs. all ++ xs)) (no_digit byte further none)
+  bad_behind_whole (all, written, is) none = record {
+    unreadable = λ further.
+        ap octets_written (append_assoc text (byte ∷ []) further) ∙ behind_whole text (byte ∷ further) all written ∙ ap (option_map (λ xs. all ++ xs)) (no_digit byte further none);
+    front = text;
+    behind = byte ∷ [];
+    is = refl;
+    keeps = (all, written, is);
+  }
 
   -- a half octet is none
   pub half_is_none : Reads (Half byte) most octets text → octets_written text ≡ None
@@ -50,11 +56,27 @@ module _ (most : Option ℕ) (octets text : List ℕ) (byte : ℕ) where
 
   -- a half octet, and a byte with which it makes none
   pub bad_behind_half : (low : ℕ) → Reads (Half byte) most octets text → octet_of (digit_value byte) (digit_value low) ≡ None → Reads Unreadable most octets (text ++ low ∷ [])
-  bad_behind_half low (front, is, some, (all, written, keeps)) none further =
-      ap (λ t. octets_written ((t ++ low ∷ []) ++ further)) is
-      ∙ ap octets_written (append_assoc (front ++ byte ∷ []) (low ∷ []) further ∙ append_assoc front (byte ∷ []) (low ∷ further))
-      ∙ behind_whole front (byte ∷ low ∷ further) all written
-      ∙ ap (λ o. option_map (λ xs. all ++ xs) (before o (octets_written further))) none
+  bad_behind_half low (front, is, some, (all, written, keeps)) none = record {
+    unreadable = λ further.
+        ap (λ t. octets_written ((t ++ low ∷ []) ++ further)) is
+        ∙ ap octets_written (append_assoc (front ++ byte ∷ []) (low ∷ []) further ∙ append_assoc front (byte ∷ []) (low ∷ further))
+        ∙ behind_whole front (byte ∷ low ∷ further) all written
+        ∙ ap (λ o. option_map (λ xs. all ++ xs) (before o (octets_written further))) none;
+    front = front;
+    behind = byte ∷ low ∷ [];
+    is = ap (λ t. t ++ low ∷ []) is ∙ append_assoc front (byte ∷ []) (low ∷ []);
+    keeps = (all, written, keeps);
+  }
+
+  -- and whatever comes behind what nothing mends
+  pub behind_unreadable : NothingMends most octets text → NothingMends most octets (text ++ byte ∷ [])
+  behind_unreadable bad = record {
+    unreadable = λ further. ap octets_written (append_assoc text (byte ∷ []) further) ∙ bad.unreadable (byte ∷ further);
+    front = bad.front;
+    behind = bad.behind ++ byte ∷ [];
+    is = ap (λ t. t ++ byte ∷ []) bad.is ∙ append_assoc bad.front bad.behind (byte ∷ []);
+    keeps = bad.keeps;
+  }
 
   -- a half octet, and the digit that makes it whole
   pub good_behind_half : (low octet : ℕ) (after : List ℕ) → Reads (Half byte) most octets text → octet_of (digit_value byte) (digit_value low) ≡ Some octet

@@ -10,12 +10,20 @@ use Rattle.hexadecimal.specs.declared.digit_reader.DigitReader.{DigitReader}
 abbrev pub Writes : Option ℕ → List ℕ → List ℕ → Type 0
 Writes most octets text = (all : List ℕ) × (octets_written text ≡ Some all) × (octets ≡ kept most all)
 
--- the text is whole octets; or such a text with a digit behind it; or no text that begins so is whole octets
+-- no text that begins so is whole octets, and what is kept are octets that a part at its front writes
+pub record NothingMends (most : Option ℕ) (octets text : List ℕ) : Type 0 where
+  pub unreadable : (further : List ℕ) → octets_written (text ++ further) ≡ None
+  pub front : List ℕ
+  pub behind : List ℕ
+  pub is : text ≡ front ++ behind
+  pub keeps : Writes most octets front
+
+-- the text is whole octets; or such a text with a digit behind it; or nothing mends it
 abbrev pub Reads : Progress → Option ℕ → List ℕ → List ℕ → Type 0
 Reads Whole most octets text = Writes most octets text
 Reads (Half digit) most octets text =
     (front : List ℕ) × (text ≡ front ++ digit ∷ []) × IsSome (digit_value digit) × Writes most octets front
-Reads Unreadable most octets text = (further : List ℕ) → octets_written (text ++ further) ≡ None
+Reads Unreadable most octets text = NothingMends most octets text
 
 -- this reader has read this text since it was made or cleared
 abbrev pub HasRead : DigitReader → List ℕ → Type 0

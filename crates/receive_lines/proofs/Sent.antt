@@ -10,8 +10,9 @@ use Rattle.randomizer.specs.declared.Randomizer.{Randomizer}
 use Rattle.randomizer.specs.Sequence.{randomized}
 use Rattle.randomizer.proofs.Laws.{octets_stay_octets}
 use Rattle.cltu.specs.Cltu.{codeblocks_for, filled, cltu}
-use Rattle.hold.specs.Candidates.{Candidate, open_codeblocks, shown_from}
+use Rattle.hold.specs.Candidates.{Candidate, open_codeblocks}
 use Rattle.hold.specs.Plain.{plain_showing}
+use Rattle.hold.proofs.Plain.{shown_plain}
 use Rattle.reception.specs.declared.Report.{Report}
 use Rattle.reception.specs.declared.Reason.TheVariants.{Closed}
 use Rattle.reception.specs.Decoding.{settings, Held, room, report}
@@ -35,11 +36,6 @@ use Rattle.receive_lines.proofs.Emptied.{taken, takes_few}
 
 abbrev information_of : SentCltu → List ℕ
 information_of c = c.information
-
--- the octets of a candidate show as they were added
-shown_plainly : (place : ℕ) (xs : List ℕ) → shown_from plain_showing place xs ≡ xs
-shown_plainly place [] = refl
-shown_plainly place (x ∷ xs) = ap (λ l. x ∷ l) (shown_plainly (suc place) xs)
 
 length_events : (bits : List Bool) → length (symbol_events bits) ≡ length bits
 length_events [] = refl
@@ -112,7 +108,7 @@ cltus_come (c ∷ cs) first bits h within none space =
     let space_then = subst (λ t. Spacious t (length rest)) one.goes.after (spacious_after there cltu rest space_there) in
     let more = cltus_come cs first bits one.hold within.1 one.opened space_then in
     let shown : Goes rules plain_showing there cltu (state (SEARCH 0 0) one.hold) (c.information ∷ []) (report_of c ∷ []) =
-    record { after = one.goes.after; news = one.goes.news ∙ ap (λ x. x ∷ []) (shown_plainly 0 c.information); reports = one.goes.reports } in
+    record { after = one.goes.after; news = one.goes.news ∙ ap (λ x. x ∷ []) (shown_plain 0 c.information); reports = one.goes.reports } in
     record {
       count = more.count;
       window = more.window;

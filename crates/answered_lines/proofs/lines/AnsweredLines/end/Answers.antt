@@ -5,9 +5,13 @@ use Rattle.answered_lines.proofs.Steps.{printed_is}
 use Rattle.answered_lines.proofs.lines.AnsweredLines.end.Goals as goal
 
 pub returns : goal.returns
-returns g c taken before has =
+returns g c =
     let after = c.end_last_line.new.self in
-    let text = string_bytes c.end_last_line.new.text in
-    ap (λ t. before ++ t) c.in_ok-write_end.ensures ∙ sym (append_assoc before text (end_line after.lines after.counted))
-    ∙ printed_is g.A.Answering.meaning after taken (before ++ text) (c.in_ok-end_last_line.ensures.done taken before has)
-    ∙ ap (λ a. printed (g.A.Answering.meaning a) taken) c.in_ok-end_last_line.ensures.answering
+    let done = c.in_ok-end_last_line.ensures.done in
+    let last = end_line after.lines after.counted in (
+      done.0 ++ last,
+      c.in_ok-write_end.ensures ∙ ap (λ t. t ++ last) done.1 ∙ append_assoc (string_bytes c.args.text.now) done.0 last,
+      λ octets all has.
+          sym (append_assoc all done.0 last) ∙ printed_is g.A.Answering.meaning after octets (all ++ done.0) (done.2 octets all has)
+          ∙ ap (λ a. printed (g.A.Answering.meaning a) octets) c.in_ok-end_last_line.ensures.answering,
+    )

@@ -12,5 +12,5 @@ returns-in-Half c text reads =
     let octets = c.args.self.now.octets.items in
     ap (option_map (kept most)) (sym (elim c.in-Half.is [
       | inl half ↦ half_is_none most octets text half.0 (subst (λ p. Reads p most octets text) half.1 reads)
-      | inr unreadable ↦ unreadable_is_none text (subst (λ p. Reads p most octets text) unreadable reads)
+      | inr unreadable ↦ unreadable_is_none text (subst (λ p. Reads p most octets text) unreadable reads).unreadable
     ]))

@@ -1,7 +1,7 @@
 -- One more byte is read. Assumes nothing.
 use Rattle.std.proofs.Common.{◌∷◌, [], ◌++◌, IsSome, sym, subst, ◌∙◌, refl}
 use Rattle.hexadecimal.specs.Reading.{Reads, Writes}
-use Rattle.hexadecimal.proofs.DigitByDigit.{bad_behind_whole, bad_behind_half, good_behind_half}
+use Rattle.hexadecimal.proofs.DigitByDigit.{bad_behind_whole, bad_behind_half, behind_unreadable, good_behind_half}
 use Rattle.hexadecimal.proofs.digit_reader.DigitReader.read.Goals.{in-Some, in-None}
 use Rattle.hexadecimal.proofs.digit_reader.DigitReader.read.Goals as goal
 
@@ -30,3 +30,10 @@ returns-in-None-octet_value-clause-text c text reads =
     let octets = c.args.self.now.octets.items in
     let half = subst (λ p. Reads p most octets text) c.in-Half.is reads in
     bad_behind_half most octets text c.in-Half.high c.args.byte half (sym c.octet_value.ensures ∙ c.in-None-octet_value.is)
+
+pub returns-in-Unreadable-clause-text : goal.returns-in-Unreadable-clause-text
+returns-in-Unreadable-clause-text c text reads =
+    let most = c.args.self.now.most in
+    let octets = c.args.self.now.octets.items in
+    let bad = subst (λ p. Reads p most octets text) c.in-Unreadable.is reads in
+    subst (λ p. Reads p most octets (text ++ c.args.byte ∷ [])) (sym c.in-Unreadable.is) (behind_unreadable most octets text c.args.byte bad)
