@@ -53,7 +53,7 @@ mod tests {
         bits
     }
 
-    // With so many bits of idle behind it, of which the first is this.
+    // The CLTU, and behind it an octet of idle that begins with this bit.
     fn with_octet_behind(first: bool) -> [bool; 152] {
         let mut symbols = [false; 152];
         symbols[..144].copy_from_slice(&bits(&CLTU));
