@@ -10,6 +10,7 @@ use Rattle.hold.specs.Candidates.{Matches, copy_answer, after_copy}
 use Rattle.queue.specs.declared.slots.Queue.{Queue}
 use Rattle.reception.specs.declared.Report.{Report}
 use Rattle.reception.specs.Rules.{Event, release}
+use Rattle.reception.specs.Runs.{idle}
 use Rattle.reception.specs.Calls.{symbol_events}
 use Rattle.reception.specs.Allowance.{ReceivedCltu, symbols_of, WithinAllowance}
 use Rattle.decoding.specs.Meaning.{rules_of}
@@ -36,12 +37,16 @@ module _ {X : Type 0} (hold : Ghosts X) where
     pub copied : answer ≡ copy_answer (held_by hold after).finished memory
     pub memory_after : now ≡ after_copy (held_by hold after).finished memory
 
-  -- symbols that are the CLTU of a frame, within the allowance, for a hold that matches its sender and has the capacity
+  -- symbols that are the CLTU of a frame, within the allowance, with idle or nothing behind it, for a hold that matches
+  -- its sender and has the capacity
   pub record IsCommand (r : Receiver X) (frame : List ℕ) (symbols : List Bool) : Type 0 where
     pub octets : AllBelowBase 256 frame
     pub randomizer : Randomizer
     pub matches : Matches hold.showing randomizer
     pub cltu : ReceivedCltu
-    pub comes : symbols ≡ symbols_of cltu
+    -- so many bits of idle, also none, which begins with either bit
+    pub behind_first : Bool
+    pub behind : ℕ
+    pub comes : symbols ≡ symbols_of cltu ++ idle behind_first behind
     pub within : WithinAllowance (rules_of (settings_of r)) (randomized randomizer (filled frame)) cltu
     pub space : length cltu.blocks ≤ (held_by hold r).capacity

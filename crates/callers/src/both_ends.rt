@@ -33,6 +33,8 @@ pub struct SenderSettings {
 /// Sends two frames from one end to the other: a session writes an acquisition of so many octets and the CLTUs of
 /// both frames into the memory, and the receiver, whose carrier goes up for it, hears the bits of these octets. Answers
 /// how many octets these are.
+/// That both frames come, in order, is proved where nothing is refused, the receiver came by calls from its making and
+/// has a limit no lower than the session's, and its hold matches the session's randomizer and has free space for both.
 /// Refused as the session's calls are, in their order, and with 5 where the receiver is not INACTIVE; then the
 /// receiver and the queue are as they were. What was written before a refusal stands in front of the memory: nothing,
 /// the acquisition, it and the first CLTU with the idle octet behind, or all of it. The rest of the memory is as it

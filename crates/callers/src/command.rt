@@ -18,7 +18,10 @@ use reception::Report;
 use refusals::Refusal;
 
 /// Hears symbols that bring a command, and copies it to the front of the memory: the frame with its fill, which has
-/// as many octets as are answered. What was finished before is released first, so read that before this call.
+/// as many octets as are answered. The symbols are its CLTU, and behind it idle, which begins with either bit, or
+/// nothing. What was finished before is released first, so read that before this call.
+/// That the frame comes is proved where the receiver was back in SEARCH, the CLTU is within the allowance, the hold
+/// matches the sender's randomizer and has capacity for the codeblocks, and the memory is long enough.
 /// Refused with 6 where the receiver is INACTIVE, and then nothing is changed. Refused with 7 where the symbols
 /// finished no candidate, and with 2 where the memory is too short for it: then the symbols were heard, the memory
 /// is as it was, and a candidate that was finished still waits.

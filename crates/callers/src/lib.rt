@@ -53,6 +53,16 @@ mod tests {
         bits
     }
 
+    // The CLTU, and behind it an octet of idle that begins with this bit.
+    fn with_octet_behind(first: bool) -> [bool; 152] {
+        let mut symbols = [false; 152];
+        symbols[..144].copy_from_slice(&bits(&CLTU));
+        for (i, bit) in symbols[144..].iter_mut().enumerate() {
+            *bit = first == (i % 2 == 0);
+        }
+        symbols
+    }
+
     fn sender(limit: usize, randomizer: Randomizer) -> SenderSettings {
         SenderSettings {
             limit,
@@ -137,6 +147,23 @@ mod tests {
         let mut receiver = listening(settings, OneCell::new());
         assert!(rt; command_over(&mut receiver, &mut memory[..6]) == Err(Refusal::MemoryTooShort));
         assert!(rt; receiver.finished_count() == 1);
+        Ok(())
+    }
+
+    #[test]
+    fn idle_behind_each_command(rt: HostRuntime) -> Result<(), Fail> {
+        let mut slots = [Report::UNUSED; 1];
+        let mut reports = Queue::new(&mut slots);
+        let mut receiver = listening(Settings::new(Mode::Correcting, 1)?, OneCell::new());
+        for first in [false, true] {
+            let symbols = with_octet_behind(first);
+            for _ in 0..2 {
+                let mut memory = [0; 7];
+                let octets = receive_command(&mut receiver, &symbols, &mut reports, &mut memory)?;
+                assert!(rt; octets == 7 && memory == FRAME);
+                assert!(rt; receiver.state() == ReceiverState::Search);
+            }
+        }
         Ok(())
     }
 

@@ -9,7 +9,8 @@ use decoding::Settings;
 use hold::Hold;
 use receiver::Receiver;
 
-/// A receiver over a hold in any state, whose carrier is up: what is sent to it next is received.
+/// A receiver over a hold in any state, whose carrier is up. It is in SEARCH with no candidate open, and
+/// `receive_command` may follow.
 pub fn listening<H: Hold>(settings: Settings, hold: H) -> Receiver<H>
     ensures state { state_of H.Hold result ≡ state searching (abandoning (held_in H.Hold hold)) }
     ensures settings { settings_of result ≡ settings }

@@ -14,6 +14,7 @@ use refusals::Refusal;
 
 /// Brings a receiver back to SEARCH, whatever it received before: it hears idle, as many bits as the memory has, in
 /// two calls with a release between. The idle is written into the memory and begins with the bit `first`.
+/// That it is back is proved where it came by calls from its making and the memory has at least `recovery_bits` bits.
 /// Refused with 6 where the receiver is INACTIVE, and then nothing is changed.
 pub fn recover<H: Hold>(
     receiver: &mut Receiver<H>,
