@@ -18,7 +18,8 @@ module _ {X : Type 0} (hold : Ghosts X) where
     pub calls : List Call
     pub came : CameBy hold over calls r
 
-  -- `state` answers SEARCH and `open_codeblocks` 0, and what is sent next is received
+  -- `state` answers SEARCH and `open_codeblocks` 0, and nothing but idle is in the window, so that what is sent at once
+  -- is received
   pub record BackInSearch (r : Receiver X) : Type 0 where
     pub state : named (state_of hold r).phase ≡ Search
     pub none_open : added (held_by hold r) ≡ 0

@@ -16,7 +16,7 @@ returns-clause-heard g c up =
     }
 
 pub returns-clause-received : goal.returns-clause-received
-returns-clause-received g c back frame command enough =
+returns-clause-received g c back frame command =
     let hold = g.H.Hold in
     let runs = c.symbols.ensures.over_calls in
     let released = c.release_all.ensures.released runs c.args.reports.now in
@@ -24,7 +24,7 @@ returns-clause-received g c back frame command enough =
     (heard hold c.args.symbols.now _ _ _ c.args.reports.now _ runs (map-id _) c.symbols.ensures.after c.symbols.ensures.queued) in
     let used = used_on hold _ _ _ c.symbols.ensures.after (c.release_all.ensures.in_use back.in_use) in
     let received = commanded hold frame c.args.symbols.now c.args.receiver.now c.symbols.new.self _ _ runs back command ran used in
-    (copied_in_front frame _ _ _ _ received.0 enough c.copy_oldest.ensures.answer c.copy_oldest.ensures.memory, received.1)
+    (received.0, received.1, λ enough. copied_in_front frame _ _ _ _ received.0 enough c.copy_oldest.ensures.answer c.copy_oldest.ensures.memory)
 
 pub returns-clause-in_use : goal.returns-clause-in_use
 returns-clause-in_use g c used = used_on g.H.Hold _ _ _ c.symbols.ensures.after (c.release_all.ensures.in_use used)
