@@ -4,7 +4,6 @@ pub mod Symbols
 pub mod Searching
 pub mod Decoding
 pub mod Rules
-pub mod Counting
 pub mod Runs
 pub mod Calls
 pub mod Allowance
