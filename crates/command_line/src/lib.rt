@@ -4,11 +4,13 @@
 mod failure;
 mod input;
 mod mistakes;
+mod number;
 mod one_line;
 mod running;
 
 pub use failure::Failure;
 pub use input::{input_file, named_file, opened};
+pub use number::number_within;
 pub use running::{ended, program, run, words};
 
 /// The words that a program was called with, as the system gives them.
