@@ -7,9 +7,7 @@ use Rattle.std.proofs.lemmas.List.{take_at}
 use Rattle.std.proofs.lemmas.List.Folds.{list_all-map}
 use Rattle.pass_record.specs.Record.{record_of, IsRecord}
 use Rattle.pass_record.specs.Reading.{told_segments}
-use Rattle.pass_record.specs.Segments.{segments_in}
 use Rattle.pass_record.specs.Writing.{HasNoRecord, holdable, ReadBackFrom}
-use Rattle.pass_record.specs.declared.record.PassRecord.{PassRecord}
 use Rattle.pass_record.proofs.Places.{segments_are_told}
 
 tested_few : (n : ℕ) → n ≤ 65535 → nat_le n 65535 ≡ true

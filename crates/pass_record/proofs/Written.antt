@@ -3,7 +3,7 @@ use Rattle.std.proofs.Common.{◌≡◌, ℕ, ◌+◌, ◌-◌, ◌*◌, ◌<◌
 use Rattle.std.specs.List.{flat_map}
 use Rattle.std.proofs.lemmas.Grind.{flat_map-append}
 use Rattle.std.proofs.lemmas.List.{append-nil, append_assoc, length-append, length-take-le, length-map, map-append, map_more, drop_at, drop-drop, take_at, take-append-drop}
-use Rattle.pass_record.specs.Record.{octets_for, packed, four_octets, entry, entries, record_of}
+use Rattle.pass_record.specs.Record.{octets_for, packed, entry, entries, record_of}
 use Rattle.pass_record.proofs.Packing.{length_packed}
 use Rattle.pass_record.proofs.Places.{length_entries, entries_append, length_record_of}
 

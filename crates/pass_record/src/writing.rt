@@ -176,6 +176,7 @@ pub fn write_record<S: AsSlice<bool>>(segments: &[S], memory: &mut [u8]) -> Resu
 #[cfg(test)]
 mod tests {
     use super::*;
+    use std::alloc::{AllocError, Global};
     use std::test::Fail;
 
     // The symbols 101, and 000100101.
@@ -216,15 +217,16 @@ mod tests {
         assert!(rt; memory == [0x55; 27]);
     }
 
+    // What the length is of a record of one segment that takes so many octets.
+    fn length_of_one(heap: Global, octets: usize) -> Result<Result<usize, Refusal>, AllocError> {
+        let symbols = vec![in heap; true; octets.saturating_mul(8)]?;
+        Ok(record_length(&[symbols.as_slice()]))
+    }
+
     #[test]
     fn longest(rt: HostRuntime) -> Result<(), Fail> {
-        let symbols = vec![in rt.alloc(); true; 524153]?;
-        let (longest, longer) = (&symbols[..524152], symbols.as_slice());
-        assert!(rt; record_length(&[longest]) == Ok(65535));
-        assert!(rt; record_length(&[longer]) == Err(Refusal::RecordLayout));
-        let mut memory = vec![in rt.alloc(); 0; 65536]?;
-        assert!(rt; write_record(&[longest], memory.as_mut_slice()) == Ok(65535));
-        assert!(rt; write_record(&[longer], memory.as_mut_slice()) == Err(Refusal::RecordLayout));
+        assert!(rt; length_of_one(rt.alloc(), 65519)? == Ok(65535));
+        assert!(rt; length_of_one(rt.alloc(), 65520)? == Err(Refusal::RecordLayout));
         Ok(())
     }
 }

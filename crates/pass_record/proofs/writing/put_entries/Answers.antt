@@ -1,6 +1,6 @@
 -- Each entry is put behind the one before. Assumes nothing.
-use Rattle.std.proofs.Common.{◌≡◌, ◌+◌, ◌*◌, ◌≤◌, ◌<◌, length, ap, ap₂, sym, ◌∙◌, arith}
-use Rattle.pass_record.specs.Record.{octets_for, entry, four_octets}
+use Rattle.std.proofs.Common.{◌≡◌, ◌+◌, length, ap, ◌∙◌, arith}
+use Rattle.pass_record.specs.Record.{octets_for, entry}
 use Rattle.pass_record.proofs.Written.{first_most, length_more, entry_put}
 use Rattle.pass_record.proofs.writing.put_entries.Goals as goal
 

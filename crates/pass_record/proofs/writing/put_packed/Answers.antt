@@ -1,9 +1,9 @@
 -- Each place gets the octet of the symbols that it is for. Assumes nothing.
-use Rattle.std.proofs.Common.{◌≡◌, ℕ, ◌*◌, length, drop, set, get_or, ap, ◌∙◌, sym, arith}
+use Rattle.std.proofs.Common.{◌≡◌, ◌*◌, length, drop, set, get_or, ap, ◌∙◌, arith}
 use Rattle.std.proofs.lemmas.List.{take_rest}
 use Rattle.std.proofs.lemmas.List.Edits.{fill_by_more}
 use Rattle.std.proofs.lemmas.List.FromFn.{fill_by_all}
-use Rattle.pass_record.specs.Record.{octet_of, octets_for, packed}
+use Rattle.pass_record.specs.Record.{octet_of, octets_for}
 use Rattle.pass_record.proofs.writing.put_packed.Goals as goal
 
 pub loop-k-preserved : goal.loop-k-preserved

@@ -1,5 +1,5 @@
 -- Each segment is packed behind the one before. Assumes nothing.
-use Rattle.std.proofs.Common.{◌≡◌, ◌+◌, ◌≤◌, length, ap, sym, ◌∙◌, arith}
+use Rattle.std.proofs.Common.{◌≡◌, ◌+◌, length, ap, sym, ◌∙◌, arith}
 use Rattle.pass_record.specs.Record.{octets_for, packed}
 use Rattle.pass_record.proofs.Written.{first_most, length_more, symbols_put}
 use Rattle.pass_record.proofs.writing.put_symbols.Goals as goal
