@@ -4,6 +4,7 @@ mod Octets
 mod Packing
 mod Places
 mod Laid
+mod FirstFault
 mod Written
 mod Kept
 mod Within

@@ -2,4 +2,6 @@
 pub mod Record
 pub mod Reading
 pub mod Segments
+pub mod Faults
+pub mod FaultText
 pub mod Writing

@@ -3,7 +3,7 @@ use Rattle.std.specs.Prelude.{◌≡◌, ℕ, ◌-◌, Bool, List, take, drop, R
 use Rattle.bch.specs.Bits.{bits_of}
 use Rattle.refusals.specs.declared.Refusal.{Refusal}
 use Rattle.refusals.specs.declared.Refusal.TheVariants.{RecordLayout}
-use Rattle.pass_record.specs.Record.{IsRecord}
+use Rattle.pass_record.specs.Record.{IsRecord, IsNoRecord}
 use Rattle.pass_record.specs.Reading.{told_segments}
 use Rattle.pass_record.specs.declared.record.PassRecord.{PassRecord}
 use Rattle.pass_record.specs.declared.segment.Segment.{Segment}
@@ -30,7 +30,7 @@ symbols_left to_come =
 -- why octets are refused, and that no segments make them a record
 pub record RefusedLayout (octets : List ℕ) (why : Refusal) : Type 0 where
   pub reason : why ≡ RecordLayout
-  pub none : (segments : List (List Bool)) → IsRecord octets segments → ⊥
+  pub none : IsNoRecord octets
 
 -- octets that are the record of segments are read, and the record has these segments
 abbrev pub GivesBack : List ℕ → Result PassRecord Refusal → Type 0

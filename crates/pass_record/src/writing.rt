@@ -6,11 +6,9 @@ ghost use Rattle.refusals.specs.declared.Refusal.TheVariants.{RecordLayout};
 ghost use Rattle.pass_record.specs.Record.{octet_of, octets_for, packed, weighed, four_octets, entries, record_of, IsRecord};
 ghost use Rattle.pass_record.specs.Writing.{HasNoRecord, length_answer, writing_answer, memory_after, ReadBackFrom};
 
+use crate::LONGEST_RECORD;
 use refusals::Refusal;
 use std::convert::AsSlice;
-
-/// How many octets a record has at most.
-const LONGEST_RECORD: usize = 65535;
 
 // How many octets hold so many symbols, eight to an octet.
 fn octets_for(symbols: usize) -> usize
