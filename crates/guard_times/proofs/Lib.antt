@@ -1,0 +1,5 @@
+-- Lemmas on guard times. Assumes nothing.
+pub mod Ceiling
+pub mod RowsLemmas
+pub mod Columns
+pub mod OneText

@@ -1,0 +1,83 @@
+use crate::{BitRate, GuardTime, Row, csv_text, table_text};
+use bch::Mode;
+use cltu::CodeblockLimit;
+use std::alloc::{AllocError, Global};
+
+/// The form of a text that tells guard times.
+#[derive(Clone, Copy, Debug, PartialEq, Eq)]
+pub enum Form {
+    /// A table to be read, with what it tells below it.
+    Table,
+    /// Values parted by commas, for a spreadsheet.
+    Csv,
+}
+
+/// Which guard times are asked for, and in what form.
+#[derive(Debug, Drop)]
+pub struct Asked {
+    /// The limits, in the order of the rows.
+    pub limits: Vec<CodeblockLimit>,
+    /// The mode, or `None` for both.
+    pub mode: Option<Mode>,
+    /// The rate at which milliseconds are told, if any are.
+    pub rate: Option<BitRate>,
+    /// The form of the text.
+    pub form: Form,
+}
+
+impl Asked {
+    ghost use Rattle.std.specs.Prelude.{Some, IfOk, OnOk, string_bytes};
+    ghost use Rattle.guard_times.specs.Answers.{Answers, OneText};
+    ghost use Rattle.guard_times.specs.Rows.{AreRowsOf, AddsRows, guards_of_limit, guards_asked};
+
+    /// The rows: the limits in the order asked for, each in correcting mode before detecting.
+    pub fn rows(&self, heap: Global) -> Result<Vec<Row>, AllocError>
+        ensures { IfOk result (λ rows. AreRowsOf (guards_asked self.now.mode self.now.limits.items) self.now.rate rows.items) }
+    {
+        let mut rows = Vec::new(heap);
+        for limit in &self.limits {
+            self.push_rows(*limit, &mut rows)?;
+        }
+        Ok(rows)
+    }
+
+    /// All that is told of them.
+    pub fn text(&self, heap: Global) -> Result<String, AllocError>
+        ensures text { IfOk result (λ s. Answers self.now (string_bytes s)) }
+        ensures one { OneText }
+    {
+        let rows = self.rows(heap)?;
+        match self.form {
+            Form::Table => table_text(heap, rows.as_slice(), self.rate),
+            Form::Csv => csv_text(heap, rows.as_slice()),
+        }
+    }
+
+    // The rows of a limit.
+    fn push_rows(&self, limit: CodeblockLimit, rows: &mut Vec<Row>) -> Result<(), AllocError>
+        ensures { OnOk result (AddsRows (guards_of_limit self.now.mode limit) self.now.rate
+            rows.old.items rows.new.items) }
+    {
+        match self.mode {
+            Some(mode) => self.push_row(mode, limit, rows)?,
+            None => {
+                self.push_row(Mode::Correcting, limit, rows)?;
+                self.push_row(Mode::Detecting, limit, rows)?;
+            }
+        }
+        Ok(())
+    }
+
+    fn push_row(
+        &self,
+        mode: Mode,
+        limit: CodeblockLimit,
+        rows: &mut Vec<Row>,
+    ) -> Result<(), AllocError>
+        ensures { OnOk result (AddsRows (guards_of_limit (Some mode) limit) self.now.rate
+            rows.old.items rows.new.items) }
+    {
+        rows.push(Row::new(GuardTime { mode, limit }, self.rate))?;
+        Ok(())
+    }
+}
