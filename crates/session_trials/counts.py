@@ -7,34 +7,47 @@ JOBS = 5
 
 
 class Numbers:
-    """The trial's sequence of numbers."""
+    """The trial's numbers: PCG32 (XSH RR), and ranges by Canon's method."""
 
-    def __init__(self, seed):
-        self.state = seed
+    MULTIPLIER = 6364136223846793005
 
-    def next(self):
-        self.state = (self.state * 6364136223846793005 + 1442695040888963407) % 2**64
-        return self.state >> 48
+    def __init__(self, stream):
+        self.increment = 2 * stream + 1
+        self.state = 1 + self.increment
+        self.step()
 
-    def below(self, bound):
-        return self.next() % max(bound, 1)
+    def step(self):
+        self.state = (self.state * self.MULTIPLIER + self.increment) % 2**64
+
+    def word(self):
+        turn = self.state >> 59
+        word = ((self.state >> 18 ^ self.state) >> 27) % 2**32
+        self.step()
+        return (word >> turn | word << (32 - turn)) % 2**32
+
+    def between(self, least, most):
+        width = most - least + 1
+        whole, fraction = divmod(self.word() * width, 2**32)
+        if fraction > 2**32 - width:
+            whole += (fraction + (self.word() * width >> 32)) >> 32
+        return least + whole
 
     def bit(self):
-        return self.next() < 32768
+        return self.word() >= 2**31
 
 
 class Session:
-    def __init__(self, plop, limit):
+    def __init__(self, plop, limit, stream):
         self.plop = plop
         self.limit = limit
-        self.numbers = Numbers(limit)
+        self.numbers = Numbers(stream)
         self.jobs = []
         self.finished = []  # the codeblocks of each candidate in the hold
         self.overfull = self.octets = self.sent = self.back = self.early = 0
 
     def some_frame(self):
-        length = self.numbers.below(min(7 * self.limit, 1024)) + 1
-        self.numbers.below(FRAME_MEMORY - length + 1)
+        length = self.numbers.between(1, min(7 * self.limit, 1024))
+        self.numbers.between(0, FRAME_MEMORY - length)
         return length
 
     def release_early(self):
@@ -44,7 +57,7 @@ class Session:
 
     def carry(self, octets, codeblocks=None):
         """So many octets, of which the first are the CLTU of a frame of so many codeblocks, if any."""
-        cut = self.numbers.below(octets)
+        cut = self.numbers.between(0, octets)
         self.numbers.bit()
         coming = [] if codeblocks is None else [codeblocks]
         if coming and cut >= 2 + 8 * codeblocks + 8:
@@ -56,7 +69,7 @@ class Session:
         self.octets += octets
 
     def idle(self):
-        self.carry(self.numbers.below(60) + 1)
+        self.carry(self.numbers.between(1, 60))
 
     def send(self):
         length, idle = (self.some_frame(), 0) if self.numbers.bit() else self.jobs.pop(0)
@@ -69,8 +82,8 @@ class Session:
 
     def stretch(self):
         while len(self.jobs) < JOBS:
-            self.jobs.append((self.some_frame(), 1000 * self.numbers.below(3)))
-        self.carry(self.numbers.below(240) + 16)
+            self.jobs.append((self.some_frame(), 1000 * self.numbers.between(0, 2)))
+        self.carry(self.numbers.between(16, 255))
         codeblocks = 0
         for _ in range(1 if self.plop == 1 else 4):
             if self.numbers.bit():
@@ -88,11 +101,13 @@ def refused(plop):
     return 10 + 8 + 2 + 2 * (14 + 4) + 8 + (8 if plop == 1 else 0)
 
 
+stream = 0
 for plop in 1, 2:
     for randomizer in "off", "on":
         for idle in "55", "AA":
             for mode, limit in ("correcting", 147), ("detecting", 37):
-                session = Session(plop, limit)
+                stream += 1
+                session = Session(plop, limit, stream)
                 for _ in range(STRETCHES):
                     session.stretch()
                 print(

@@ -6,11 +6,12 @@
 use chain::{Chain, LinkedCell};
 use derandomizing::Derandomizing;
 use hold::{Hold, copy_oldest};
+use rand::RngExt;
+use rand_pcg::Pcg32;
 use randomizer::Randomizer;
 use refusals::Refusal;
 use ring::{Cell, Ring};
 use std::alloc::{AllocError, AllocFailed, Global};
-use std::array;
 use std::collections::VecDeque;
 
 /// Why the model does not do what is asked: it refuses, as a hold does, or memory ran out.
@@ -41,17 +42,6 @@ struct Model {
     randomizer: Randomizer,
     finished: VecDeque<Vec<u8>>,
     unfinished: Option<Vec<u8>>,
-}
-
-/// A sequence of numbers in which no pattern is easily seen.
-#[derive(Drop)]
-struct Numbers(u32);
-
-impl Numbers {
-    fn next(&mut self) -> u32 {
-        self.0 = self.0.wrapping_mul(1664525).wrapping_add(1013904223);
-        self.0 >> 16
-    }
 }
 
 impl Model {
@@ -184,19 +174,19 @@ struct Trial<R, C> {
     ring: R,
     chain: C,
     model: Model,
-    numbers: Numbers,
+    numbers: Pcg32,
 }
 
 impl<R: Hold, C: Hold> Trial<R, C> {
     /// One operation, chosen by a number: whether the holds and the model answer alike.
     fn operation(&mut self) -> Result<bool, AllocError> {
-        let (ring, chain, alike) = match self.numbers.next() % 16 {
-            0 | 1 => {
+        let (ring, chain, alike) = match self.numbers.random_range(0..16u32) {
+            0..=2 => {
                 let ring = self.ring.open();
                 (ring, self.chain.open(), ring == self.model.open())
             }
-            2..=8 => {
-                let octets: [u8; 7] = array::from_fn(|_| (self.numbers.next() & 0xff) as u8);
+            3..=9 => {
+                let octets: [u8; 7] = self.numbers.random();
                 let ring = self.ring.add(octets);
                 (
                     ring,
@@ -204,11 +194,11 @@ impl<R: Hold, C: Hold> Trial<R, C> {
                     alike(ring, self.model.add(octets))?,
                 )
             }
-            9 | 10 => {
+            10..=12 => {
                 let ring = self.ring.finish();
                 (ring, self.chain.finish(), alike(ring, self.model.finish())?)
             }
-            11 => {
+            13 => {
                 let ring = self.ring.abandon();
                 (ring, self.chain.abandon(), ring == self.model.abandon())
             }
@@ -225,7 +215,7 @@ impl<R: Hold, C: Hold> Trial<R, C> {
         let mut otherwise: u32 = 0;
         for _ in 0..operations {
             let alike = self.operation()?;
-            let place = (self.numbers.next() % 40) as usize;
+            let place = self.numbers.random_range(0..40usize);
             if !alike
                 || !self.model.is_answered_by(&self.ring, place)
                 || !self.model.is_answered_by(&self.chain, place)
@@ -250,7 +240,7 @@ fn tried<R: Hold + Drop, C: Hold + Drop>(
         ring,
         chain,
         model,
-        numbers: Numbers(1),
+        numbers: Pcg32::new(1, 0),
     };
     let otherwise = trial.otherwise(operations)?;
     println!(rt;

@@ -9,6 +9,9 @@ use decoding::Settings;
 use derandomizing::Derandomizing;
 use hold::Hold;
 use queue::Queue;
+use rand::RngExt;
+use rand::seq::IndexedRandom;
+use rand_pcg::Pcg32;
 use randomizer::Randomizer;
 use receiver::{Receiver, ReceiverState};
 use reception::{Reason, Report, recovery_bits};
@@ -18,57 +21,15 @@ use std::alloc::{AllocError, Global};
 use std::collections::VecDeque;
 use std::{fmt, iter};
 
-/// A sequence of numbers in which no pattern is easily seen.
-#[derive(Drop)]
-struct Numbers(u64);
+/// One of these, or 0 where there are none.
+fn pick<T: Copy + Default>(numbers: &mut Pcg32, from: &[T]) -> T {
+    from.choose(numbers).copied().unwrap_or_default()
+}
 
-impl Numbers {
-    fn new(seed: u64) -> Numbers {
-        Numbers(seed)
-    }
-
-    /// A number from 0 to 65,535.
-    fn next(&mut self) -> u64 {
-        self.0 = self
-            .0
-            .wrapping_mul(6364136223846793005)
-            .wrapping_add(1442695040888963407);
-        self.0 >> 48
-    }
-
-    /// A number below the bound, or 0 where that is 0.
-    fn below(&mut self, bound: usize) -> usize {
-        self.next() as usize % bound.max(1)
-    }
-
-    /// One of these, or 0 where there are none.
-    fn pick(&mut self, from: &[usize]) -> usize {
-        from.get(self.below(from.len())).copied().unwrap_or(0)
-    }
-
-    /// True so many times of 65,536.
-    fn chance(&mut self, times: u64) -> bool {
-        self.next() < times
-    }
-
-    fn bit(&mut self) -> bool {
-        self.chance(32768)
-    }
-
-    /// The first or the second.
-    fn either<T: Drop>(&mut self, first: T, second: T) -> T {
-        if self.bit() { first } else { second }
-    }
-
-    fn octet(&mut self) -> u8 {
-        (0..8).fold(0, |octet, _| (octet << 1) | u8::from(self.bit()))
-    }
-
-    /// A soft level that counts as this bit.
-    fn level(&mut self, bit: bool) -> i8 {
-        let level = i8::from_le_bytes([self.octet()]);
-        if (level < 0) == bit { level } else { !level }
-    }
+/// A soft level that counts as this bit.
+fn level(numbers: &mut Pcg32, bit: bool) -> i8 {
+    let level: i8 = numbers.random();
+    if (level < 0) == bit { level } else { !level }
 }
 
 /// The start sequence EB 90.
@@ -116,7 +77,7 @@ struct Setup {
     taken: bool,
     feed: Feed,
     /// Of 65,536 symbols so many are wrong.
-    wrong: u64,
+    wrong: u16,
 }
 
 /// All that can be asked of a receiver and its queue.
@@ -438,8 +399,8 @@ struct Bench<'a, H: Hold> {
     queue: Queue<'a, Report>,
     model: Model,
     // Chooses soft levels, so that the other choices of a run do not depend on how symbols are brought.
-    noise: Numbers,
-    numbers: &'a mut Numbers,
+    noise: Pcg32,
+    numbers: &'a mut Pcg32,
     tally: &'a mut Tally,
 }
 
@@ -463,7 +424,7 @@ impl<'a, H: Hold + Drop> Bench<'a, H> {
         hold: H,
         slots: &'a mut [Report],
         sequence: Vec<u8>,
-        numbers: &'a mut Numbers,
+        numbers: &'a mut Pcg32,
         tally: &'a mut Tally,
     ) -> Bench<'a, H> {
         Bench {
@@ -472,7 +433,7 @@ impl<'a, H: Hold + Drop> Bench<'a, H> {
             receiver: Receiver::new(setup.settings, hold),
             queue: Queue::new(slots),
             model: Model::new(heap, setup, sequence),
-            noise: Numbers::new(2),
+            noise: Pcg32::new(2, 0),
             numbers,
             tally,
         }
@@ -480,7 +441,9 @@ impl<'a, H: Hold + Drop> Bench<'a, H> {
 
     /// A frame of so many octets.
     fn frame(&mut self, octets: usize) -> Result<Vec<u8>, AllocError> {
-        (0..octets).map(|_| self.numbers.octet()).collect(self.heap)
+        (0..octets)
+            .map(|_| self.numbers.random())
+            .collect(self.heap)
     }
 
     /// The CLTU of a frame, which may have more codeblocks than the receiver's limit.
@@ -503,19 +466,27 @@ impl<'a, H: Hold + Drop> Bench<'a, H> {
     fn damaged(&mut self, line: &[bool]) -> Result<Vec<bool>, AllocError> {
         let wrong = self.setup.wrong;
         line.iter()
-            .map(|bit| *bit != self.numbers.chance(wrong))
+            .map(|bit| *bit != (self.numbers.random::<u16>() < wrong))
             .collect(self.heap)
     }
 
     /// A CLTU with idle around it and wrong bits anywhere. It may have a codeblock more than the limit.
     fn command(&mut self) -> anyhow::Result<Vec<bool>> {
         let most = (self.setup.settings.limit.count() * 7 + 7).min(1024);
-        let octets = self.numbers.below(most).saturating_add(1);
+        let octets = self.numbers.random_range(1..=most);
         let frame = self.frame(octets)?;
         let mut line = Vec::new(self.heap);
-        put_idle(&mut line, self.numbers.below(200), self.numbers.bit())?;
+        put_idle(
+            &mut line,
+            self.numbers.random_range(0..200),
+            self.numbers.random(),
+        )?;
         self.put_cltu(&mut line, frame.as_slice())?;
-        put_idle(&mut line, self.numbers.below(400), self.numbers.bit())?;
+        put_idle(
+            &mut line,
+            self.numbers.random_range(0..400),
+            self.numbers.random(),
+        )?;
         Ok(self.damaged(line.as_slice())?)
     }
 
@@ -561,7 +532,7 @@ impl<'a, H: Hold + Drop> Bench<'a, H> {
 
     /// One of the calls by which a reader takes what was received, or no symbols.
     fn reading(&mut self) -> Result<(), AllocError> {
-        let alike = match self.numbers.below(3) {
+        let alike = match self.numbers.random_range(0..3u32) {
             0 => self.receiver.release() == self.model.release(),
             1 if self.setup.taken => self.queue.take() == self.model.take_report(),
             _ => {
@@ -601,10 +572,10 @@ impl<'a, H: Hold + Drop> Bench<'a, H> {
     fn line(&mut self, line: &[bool]) -> Result<(), AllocError> {
         let mut rest = line;
         for _ in 0..line.len() {
-            let length = self.numbers.below(150).saturating_add(1).min(rest.len());
+            let length = self.numbers.random_range(1..=150usize).min(rest.len());
             let (call, after) = rest.split_at(length);
             self.symbols(call)?;
-            if self.numbers.chance(20000) {
+            if self.numbers.random::<u16>() < 20000 {
                 self.reading()?;
             }
             rest = after;
@@ -652,7 +623,7 @@ impl<'a, H: Hold + Drop> Bench<'a, H> {
 
     /// What may lie between two CLTUs besides symbols: a carrier break, refused calls or nothing.
     fn between(&mut self) -> Result<(), AllocError> {
-        match self.numbers.below(4) {
+        match self.numbers.random_range(0..4u32) {
             0 => self.refused(),
             1 => {
                 self.carrier_down()?;
@@ -669,7 +640,7 @@ impl<'a, H: Hold + Drop> Bench<'a, H> {
         let soft = match self.setup.feed {
             Feed::Bits => false,
             Feed::SoftLevels => true,
-            Feed::Mixed => self.noise.bit(),
+            Feed::Mixed => self.noise.random(),
         };
         let made = if soft {
             let levels = levels(self.heap, bits, &mut self.noise)?;
@@ -685,26 +656,32 @@ impl<'a, H: Hold + Drop> Bench<'a, H> {
 }
 
 /// Soft levels that count as these bits.
-fn levels(heap: Global, bits: &[bool], numbers: &mut Numbers) -> Result<Vec<i8>, AllocError> {
-    bits.iter().map(|bit| numbers.level(*bit)).collect(heap)
+fn levels(heap: Global, bits: &[bool], numbers: &mut Pcg32) -> Result<Vec<i8>, AllocError> {
+    bits.iter().map(|bit| level(numbers, *bit)).collect(heap)
 }
 
 /// A setup of any kind.
-fn any_setup(numbers: &mut Numbers) -> anyhow::Result<Setup> {
-    let mode = numbers.either(Mode::Correcting, Mode::Detecting);
-    let randomizer = numbers.either(Randomizer::On, Randomizer::Off);
-    let settings = Settings::new(mode, numbers.pick(&[1, 2, 3, 5, 8, 37, 147])).context(
-        "a limit was refused",
-    )?;
+fn any_setup(numbers: &mut Pcg32) -> anyhow::Result<Setup> {
+    let mode = if numbers.random() {
+        Mode::Correcting
+    } else {
+        Mode::Detecting
+    };
+    let randomizer = if numbers.random() {
+        Randomizer::On
+    } else {
+        Randomizer::Off
+    };
+    let limit = pick(numbers, &[1, 2, 3, 5, 8, 37, 147]);
     Ok(Setup {
-        settings,
+        settings: Settings::new(mode, limit).context("a limit was refused")?,
         randomizer,
         store: Store::Ring,
-        cells: numbers.pick(&[1, 2, 3, 5, 8, 13, 200]),
-        slots: numbers.pick(&[1, 2, 5, 9]),
+        cells: pick(numbers, &[1, 2, 3, 5, 8, 13, 200]),
+        slots: pick(numbers, &[1, 2, 5, 9]),
         taken: true,
         feed: Feed::Mixed,
-        wrong: numbers.pick(&[0, 60, 300, 1000, 3000]) as u64,
+        wrong: pick(numbers, &[0, 60, 300, 1000, 3000]),
     })
 }
 
@@ -739,17 +716,18 @@ impl Trial for Recovery {
         let settings = bench.setup.settings;
         bench.carrier_up()?;
         let mut garbage = bench.command()?;
-        garbage.truncate(bench.numbers.below(301));
+        garbage.truncate(bench.numbers.random_range(0..=300));
         bench.line(garbage.as_slice())?;
         let mut idle = Vec::new(bench.heap);
         let bits = recovery_bits(settings.mode, settings.limit);
-        put_idle(&mut idle, bits, bench.numbers.bit())?;
+        put_idle(&mut idle, bits, bench.numbers.random())?;
         bench.line(idle.as_slice())?;
         let searches = bench.searches();
         bench.tally.count(searches);
         bench.release_all()?;
-        let octets = bench.numbers.below((settings.limit.count() * 7).min(1024));
-        let frame = bench.frame(octets.saturating_add(1))?;
+        let most = (settings.limit.count() * 7).min(1024);
+        let octets = bench.numbers.random_range(1..=most);
+        let frame = bench.frame(octets)?;
         let mut line = Vec::new(bench.heap);
         bench.put_cltu(&mut line, frame.as_slice())?;
         bench.symbols(line.as_slice())?;
@@ -766,7 +744,7 @@ struct Full;
 impl Trial for Full {
     fn run<H: Hold + Drop>(&self, bench: &mut Bench<'_, H>) -> anyhow::Result<()> {
         bench.carrier_up()?;
-        let octets = bench.numbers.below(7).saturating_add(1);
+        let octets = bench.numbers.random_range(1..=7usize);
         let frame = bench.frame(octets)?;
         let mut line = Vec::new(bench.heap);
         bench.put_cltu(&mut line, frame.as_slice())?;
@@ -824,7 +802,7 @@ fn run_over<H: Hold + Drop, T: Trial>(
     setup: Setup,
     hold: H,
     trial: &T,
-    numbers: &mut Numbers,
+    numbers: &mut Pcg32,
     tally: &mut Tally,
 ) -> anyhow::Result<()> {
     let mut slots = vec![in heap; Report::UNUSED; setup.slots]?;
@@ -847,7 +825,7 @@ fn run<T: Trial>(
     heap: Global,
     setup: Setup,
     trial: &T,
-    numbers: &mut Numbers,
+    numbers: &mut Pcg32,
     tally: &mut Tally,
 ) -> anyhow::Result<()> {
     match setup.store {
@@ -868,7 +846,7 @@ fn run<T: Trial>(
 #[derive(Drop)]
 struct Trials<'a, R> {
     rt: &'a R,
-    numbers: Numbers,
+    numbers: Pcg32,
     /// How many differences they found.
     differences: u32,
 }
@@ -925,13 +903,13 @@ impl<R: Print + AllocGlobal> Trials<'_, R> {
 
     /// The same passes, with their symbols brought in this way.
     fn fed(&mut self, what: &str, feed: Feed) -> anyhow::Result<()> {
-        self.numbers = Numbers::new(3);
+        self.numbers = Pcg32::new(3, 0);
         self.tried(what, 100, |setup| Setup { feed, ..setup }, &Pass)
     }
 
     /// Passes over a chain, and over the derandomizing layer over a chain.
     fn over_a_chain(&mut self) -> anyhow::Result<()> {
-        self.numbers = Numbers::new(4);
+        self.numbers = Pcg32::new(4, 0);
         let store = Store::Chain;
         self.tried(
             "passes over a chain",
@@ -944,7 +922,7 @@ impl<R: Print + AllocGlobal> Trials<'_, R> {
     /// The idle bit at which a receiver with this limit is back in SEARCH.
     fn recovery_bits(&mut self, limit: usize, first: bool) -> anyhow::Result<()> {
         let mut tally = Tally::default();
-        let mut numbers = Numbers::new(1);
+        let mut numbers = Pcg32::new(1, 0);
         let settings = Settings::new(Mode::Correcting, limit).context("a limit was refused")?;
         let setup = Setup {
             settings,
@@ -992,7 +970,7 @@ fn with_room(setup: Setup) -> Setup {
 fn main(rt: HostRuntime) -> anyhow::Result<()> {
     let mut trials = Trials {
         rt: &rt,
-        numbers: Numbers::new(1),
+        numbers: Pcg32::new(1, 0),
         differences: 0,
     };
     trials.all()?;

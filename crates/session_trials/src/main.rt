@@ -9,6 +9,8 @@ use derandomizing::Derandomizing;
 use hold::Hold;
 use procedures::{IdleOctet, Plop};
 use queue::Queue;
+use rand::RngExt;
+use rand_pcg::Pcg32;
 use randomizer::Randomizer;
 use receiver::Receiver;
 use reception::{Reason, Report};
@@ -18,30 +20,6 @@ use session::{AfterSending, Carrier, FrameSpan, Job, Locked, Sent, Silent};
 use std::alloc::{AllocError, Global};
 use std::collections::VecDeque;
 
-/// A sequence of numbers in which no pattern is easily seen.
-#[derive(Drop)]
-struct Numbers(u64);
-
-impl Numbers {
-    /// A number from 0 to 65,535.
-    fn next(&mut self) -> u64 {
-        self.0 = self
-            .0
-            .wrapping_mul(6364136223846793005)
-            .wrapping_add(1442695040888963407);
-        self.0 >> 48
-    }
-
-    /// A number below the bound, or 0 where that is 0.
-    fn below(&mut self, bound: usize) -> usize {
-        self.next() as usize % bound.max(1)
-    }
-
-    fn bit(&mut self) -> bool {
-        self.next() < 32768
-    }
-}
-
 /// What a session and its receiver are set to.
 #[derive(Clone, Copy)]
 struct Setup {
@@ -50,6 +28,8 @@ struct Setup {
     idle: IdleOctet,
     limit: usize,
     mode: Mode,
+    /// Which stream of numbers the session draws from: each setup has another.
+    stream: u64,
 }
 
 /// What was counted in the sessions of a setup.
@@ -92,7 +72,7 @@ const WEIGHTS: [u8; 8] = [0x80, 0x40, 0x20, 0x10, 0x08, 0x04, 0x02, 0x01];
 struct Link<H: Hold> {
     heap: Global,
     setup: Setup,
-    numbers: Numbers,
+    numbers: Pcg32,
     receiver: Receiver<H>,
     /// The filled frames that are on their way, the oldest first.
     expected: VecDeque<Vec<u8>>,
@@ -318,10 +298,10 @@ impl<H: Hold + Drop> Link<H> {
         for (before, octet) in self.before.iter_mut().zip(written) {
             *before = *octet;
         }
-        let cut = self.numbers.below(octets).min(written.len());
+        let cut = self.numbers.random_range(0..=written.len());
         let (first, rest) = written.split_at(cut);
         self.bring(first)?;
-        if self.receiver.finished_count() > 0 && self.numbers.bit() {
+        if self.receiver.finished_count() > 0 && self.numbers.random() {
             self.release_early()?;
         }
         self.bring(rest)
@@ -343,7 +323,7 @@ impl<H: Hold + Drop> Link<H> {
     fn bring(&mut self, octets: &[u8]) -> Result<()> {
         let mut slots = [Report::UNUSED; 4];
         let mut reports = Queue::new(&mut slots);
-        let made = if self.numbers.bit() {
+        let made = if self.numbers.random() {
             let bits = symbols(self.heap, octets, false, true)?;
             self.receiver.symbols(bits.as_slice(), &mut reports)?
         } else {
@@ -361,10 +341,10 @@ impl<H: Hold + Drop> Link<H> {
     /// A frame somewhere in the frame memory, short enough for the limit.
     fn some_frame(&mut self, frames: &[u8]) -> FrameSpan {
         let most = longest_frame(self.setup).min(frames.len());
-        let length = self.numbers.below(most).saturating_add(1);
-        let places = frames.len().saturating_sub(length).saturating_add(1);
+        let length = self.numbers.random_range(1..=most.max(1));
+        let last = frames.len().saturating_sub(length);
         FrameSpan {
-            place: self.numbers.below(places),
+            place: self.numbers.random_range(0..=last),
             length,
         }
     }
@@ -539,7 +519,7 @@ impl<H: Hold + Drop> Link<H> {
         jobs: &mut Queue<'_, Job>,
         memory: &mut [u8],
     ) -> Result<AfterSending> {
-        let (after, job, octets) = if self.numbers.bit() {
+        let (after, job, octets) = if self.numbers.random() {
             let frame = self.some_frame(frames);
             let (after, octets) = answered(locked.send(frames, frame, memory))?;
             (after, Job { frame, idle: 0 }, octets)
@@ -559,7 +539,7 @@ impl<H: Hold + Drop> Link<H> {
     fn fill_jobs(&mut self, frames: &[u8], jobs: &mut Queue<'_, Job>) -> Result<()> {
         for _ in jobs.len()..jobs.capacity() {
             let frame = self.some_frame(frames);
-            let idle = self.numbers.below(3).saturating_mul(1000);
+            let idle = self.numbers.random_range(0..3usize) * 1000;
             jobs.put(Job { frame, idle })?;
         }
         Ok(())
@@ -576,13 +556,13 @@ impl<H: Hold + Drop> Link<H> {
         let carrier = self.refuse_acquisitions(carrier, memory)?;
         self.fill_jobs(frames, jobs)?;
         self.receiver.carrier_up()?;
-        let acquisition = self.numbers.below(240).saturating_add(16);
+        let acquisition = self.numbers.random_range(16..=255usize);
         let (locked, octets) = answered(carrier.acquire(acquisition, memory))?;
         self.carry_idle(memory, octets, acquisition)?;
         let mut locked = self.refuse_all(locked, frames, memory)?;
         for _ in 0..4 {
-            if self.numbers.bit() {
-                let idle = self.numbers.below(60).saturating_add(1);
+            if self.numbers.random() {
+                let idle = self.numbers.random_range(1..=60usize);
                 let octets = locked.idle(idle, memory)?;
                 self.carry_idle(memory, octets, idle)?;
             }
@@ -598,7 +578,7 @@ impl<H: Hold + Drop> Link<H> {
     /// PLOP-1: idle, and the break.
     fn after_the_only(&mut self, sent: Sent, memory: &mut [u8]) -> Result<Carrier> {
         self.refuse_idle(&Modulated::Sent(&sent), memory)?;
-        let idle = self.numbers.below(60).saturating_add(1);
+        let idle = self.numbers.random_range(1..=60usize);
         let octets = sent.idle(idle, memory)?;
         self.carry_idle(memory, octets, idle)?;
         self.carrier_down()?;
@@ -621,7 +601,7 @@ impl<H: Hold + Drop> Link<H> {
     /// A whole session, of so many stretches.
     fn session(&mut self, stretches: usize, frames: &[u8]) -> Result<()> {
         let setup = self.setup;
-        let mut memory = numbered(self.heap, LONGEST_CALL)?;
+        let mut memory = random_octets(self.heap, LONGEST_CALL)?;
         let mut slots = [NO_JOB; 5];
         let mut jobs = Queue::new(&mut slots);
         let silent = Silent::new(setup.plop, setup.limit, setup.randomizer, setup.idle)?;
@@ -641,11 +621,11 @@ fn run<H: Hold + Drop>(heap: Global, setup: Setup, hold: H, frames: &[u8]) -> Re
     let mut link = Link {
         heap,
         setup,
-        numbers: Numbers(setup.limit as u64),
+        numbers: Pcg32::new(1, setup.stream),
         receiver: Receiver::new(settings, hold),
         expected: VecDeque::new(heap),
         codeblocks: 0,
-        before: numbered(heap, LONGEST_CALL)?,
+        before: random_octets(heap, LONGEST_CALL)?,
         counts: NOTHING,
     };
     link.session(40, frames)?;
@@ -705,29 +685,29 @@ fn report(rt: &(impl Print + AllocGlobal), setup: Setup, frames: &[u8]) -> Resul
     Ok(differences)
 }
 
-/// So many octets in which no pattern is easily seen.
-fn numbered(heap: Global, length: usize) -> Result<Vec<u8>, AllocError> {
-    let mut numbers = Numbers(1);
-    let mut octets = Vec::new(heap);
-    for _ in 0..length {
-        octets.push((numbers.next() & 0xff) as u8)?;
-    }
+/// So many octets by chance, each time the same.
+fn random_octets(heap: Global, length: usize) -> Result<Vec<u8>, AllocError> {
+    let mut octets = vec![in heap; 0u8; length]?;
+    Pcg32::new(1, 0).fill(octets.as_mut_slice());
     Ok(octets)
 }
 
 fn main(rt: HostRuntime) -> anyhow::Result<()> {
-    let frames = numbered(rt.alloc(), FRAME_MEMORY)?;
+    let frames = random_octets(rt.alloc(), FRAME_MEMORY)?;
     let mut differences: u64 = 0;
+    let mut stream: u64 = 0;
     for plop in [Plop::One, Plop::Two] {
         for randomizer in [Randomizer::Off, Randomizer::On] {
             for idle in [IdleOctet::ZeroFirst, IdleOctet::OneFirst] {
                 for (mode, limit) in [(Mode::Correcting, 147), (Mode::Detecting, 37)] {
+                    stream = stream.saturating_add(1);
                     let setup = Setup {
                         plop,
                         randomizer,
                         idle,
                         limit,
                         mode,
+                        stream,
                     };
                     let more = report(&rt, setup, frames.as_slice())?;
                     differences = differences.saturating_add(more);
