@@ -14,18 +14,18 @@ use Rattle.drive_lines.specs.Driven.{Driven, driven_of}
 use Rattle.drive_lines.specs.Session.{call_in, answered_in, after_line, reports_at, text_at, printed}
 use Rattle.drive_lines.specs.Calling.{StaysIfRefused}
 
-module _ {X : Type 0} {hold : Ghosts X} where
+module _ {X : Type 0} where
   -- the receiver, how many slots its queue has, and how many lines were answered and reports printed
-  abbrev pub receiver_in : Driving X hold → Receiver X
+  abbrev pub receiver_in : Driving X → Receiver X
   receiver_in driving = driving.receiver
 
-  abbrev pub slots_in : Driving X hold → ℕ
+  abbrev pub slots_in : Driving X → ℕ
   slots_in driving = driving.slots
 
-  abbrev pub lines_in : Driving X hold → ℕ
+  abbrev pub lines_in : Driving X → ℕ
   lines_in driving = driving.lines
 
-  abbrev pub printed_in : Driving X hold → ℕ
+  abbrev pub printed_in : Driving X → ℕ
   printed_in driving = driving.printed
 
 module _ {X : Type 0} (hold : Ghosts X) where
@@ -35,7 +35,7 @@ module _ {X : Type 0} (hold : Ghosts X) where
   IsCalled (Some call) before after = Called hold call before after
 
   -- a line: the text for it, behind what was written, the call that it makes, and what the receiver comes to
-  pub record Answers (line : Reading) (before after : Driving X hold) (text text_after : List ℕ) : Type 0 where
+  pub record Answers (line : Reading) (before after : Driving X) (text text_after : List ℕ) : Type 0 where
     pub written : let rules = rules_of (settings_of (receiver_in before)) in
         text_after ≡ text ++ text_at rules hold.showing (slots_in before) (driven_of hold (receiver_in before)) line
     pub called : IsCalled (call_in (slots_in before) line) (receiver_in before) (receiver_in after)

@@ -6,3 +6,4 @@ pub mod Driven
 pub mod Session
 pub mod Calling
 pub mod Driving
+pub mod Reads

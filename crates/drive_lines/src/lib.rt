@@ -7,9 +7,11 @@ mod call;
 mod calling;
 mod driving;
 mod line;
+mod printing;
 mod words;
 
 pub use answer::Answer;
 pub use call::Call;
 pub use driving::{Driving, DrivingError};
 pub use line::Line;
+pub use printing::drive;

@@ -1,5 +1,5 @@
 -- One level more. Assumes nothing.
-use Rattle.std.proofs.Common.{◌≡◌, ◌+◌, ◌<◌, List, ◌++◌, ◌∷◌, [], map, length, drop, get_or, Some, Bor, to_z, of_z, w8, FitsSigned, sym, ap, ◌∙◌, add-one, drop-cons, rules, arith}
+use Rattle.std.proofs.Common.{◌≡◌, ℕ, ◌+◌, ◌<◌, List, ◌++◌, ◌∷◌, [], map, length, drop, get_or, Some, Bor, to_z, of_z, w8, FitsSigned, sym, ap, ◌∙◌, add-one, drop-cons, rules, arith}
 use Rattle.std.specs.Option.{option_map}
 use Rattle.std.proofs.lemmas.Int.{to_z-of_z}
 use Rattle.drive_lines.specs.Words.{all_written, level}
