@@ -1,0 +1,4 @@
+-- What the proofs of several functions share. Assumes nothing.
+pub mod Numbers
+pub mod Written
+pub mod Queued
