@@ -1,5 +1,7 @@
 -- What the proofs of several functions share. Assumes nothing.
 pub mod Lines
+pub mod Released
 pub mod Passes
 pub mod Emptied
+pub mod Texts
 pub mod Sent

@@ -1,77 +1,109 @@
-//! A pass record as lines of text: what a receiver reports of it, and the candidates that it finishes.
+//! A pass as lines of text: what a receiver reports of it, and the candidates that it finishes.
 #![tactic(auto)]
 
-ghost use Rattle.std.specs.Prelude.{◌≡◌, IfOk, string_bytes};
+ghost use Rattle.std.specs.Prelude.{◌≡◌, ◌≤◌, IfOk, string_bytes, vec_len};
 ghost use Rattle.reception.specs.Rules.{made};
 ghost use Rattle.pass_record.specs.Segments.{segments_in};
 ghost use Rattle.decoding.specs.Meaning.{rules_of, held_in};
 ghost use Rattle.receive_lines.specs.Lines.{whole_text};
-ghost use Rattle.receive_lines.specs.Pass.{rules, pass_events};
+ghost use Rattle.receive_lines.specs.Pass.{placed_pass};
 ghost use Rattle.receive_lines.specs.Answers.{IsTextOf, OneText, Answers};
 ghost use Rattle.receive_lines.specs.Releasing.{lines_of};
 
-use bch::Mode;
 use decoding::Settings;
+use derandomizing::Derandomizing;
 use hold::Hold;
 use pass_log::PassLog;
 use pass_record::PassRecord;
 use queue::Queue;
+use randomizer::Randomizer;
 use receiver::Receiver;
 use receiving::Receiving;
 use reception::Report;
 use ring::{Cell, Ring};
 use std::alloc::{AllocError, Global};
 
+mod error;
 mod pass_log;
+mod place;
 mod receiving;
+mod setup;
+mod view;
 
-// The settings of the receiver: correcting, at most 37 codeblocks in a CLTU.
-fn settings() -> Settings
-    ensures { rules_of result ≡ rules }
-{
-    Settings::new(Mode::Correcting, 37).unwrap()
-}
+pub use error::ReceivingError;
+pub use place::Place;
+pub use setup::Setup;
+pub use view::View;
 
 // What a receiver over a hold writes of a record.
 fn text_over<H: Hold + Drop>(
     heap: Global,
+    settings: Settings,
     hold: H,
+    view: View,
     pass: PassRecord<'_>,
-) -> Result<String, AllocError>
-    ensures { let events = pass_events (segments_in pass.entry) in
-        let lines = lines_of rules H.Hold.showing (made (held_in H.Hold hold)) events in
-        IfOk result (λ s. string_bytes s ≡ whole_text lines) }
+) -> Result<String, ReceivingError>
+    ensures { let events = placed_pass (segments_in pass.entry) in
+        let lines = lines_of (rules_of settings) H.Hold.showing (made (held_in H.Hold hold)) events in
+        IfOk result (λ s. string_bytes s ≡ whole_text view lines) }
 {
     let mut slots = [Report::UNUSED];
     let mut receiving = Receiving {
-        receiver: Receiver::new(settings(), hold),
+        receiver: Receiver::new(settings, hold),
         queue: Queue::new(&mut slots),
-        log: PassLog::new(heap),
+        place: Place {
+            segment: 0,
+            symbol: 0,
+        },
+        log: PassLog::new(heap, view),
     };
     receiving.take_pass(pass)?;
     let Receiving { log, .. } = receiving;
-    log.into_text()
+    Ok(log.into_text()?)
 }
 
-// What a receiver over a ring of 37 cells writes of a record.
-fn pass_text(heap: Global, pass: PassRecord<'_>) -> Result<String, AllocError>
-    ensures { IfOk result (λ s. IsTextOf (segments_in pass.entry) (string_bytes s)) }
+// Cells for so many codeblocks.
+fn new_cells(heap: Global, cells: u16) -> Result<Vec<Cell>, AllocError>
+    ensures cells { IfOk result (λ v. vec_len v ≡ cells) }
+    ensures few { cells ≤ 65535 }
 {
-    let mut cells = [Cell::EMPTY; 37];
-    text_over(heap, Ring::new(&mut cells), pass)
+    vec![in heap; Cell::EMPTY; cells as usize]
 }
 
-/// The lines of a pass record: for each report its reason, its codeblocks and its corrections; behind
-/// `closed` the candidate that was finished; last, how many reports and frames there were. `refused 16`
-/// alone where the octets are no pass record. The receiver corrects wrong bits and takes at most 37
-/// codeblocks in a CLTU. It is told to release each candidate as soon as that is written, so its ring of
-/// 37 cells never fills.
-pub fn answer_record(heap: Global, octets: &[u8]) -> Result<String, AllocError>
-    ensures answers { IfOk result (λ s. Answers octets.now (string_bytes s)) }
+// What a receiver over a ring writes of a record.
+fn pass_text(
+    heap: Global,
+    setup: Setup,
+    view: View,
+    pass: PassRecord<'_>,
+) -> Result<String, ReceivingError>
+    ensures { IfOk result (λ s. IsTextOf setup view (segments_in pass.entry) (string_bytes s)) }
+{
+    let mut cells = new_cells(heap, setup.cells)?;
+    let ring = Ring::new(cells.as_mut_slice());
+    match setup.randomizer {
+        Randomizer::On => text_over(heap, setup.settings, Derandomizing::over(ring), view, pass),
+        Randomizer::Off => text_over(heap, setup.settings, ring, view, pass),
+    }
+}
+
+/// The lines of a pass record: for each report its reason, its codeblocks and its corrections, and before
+/// it its place if that is asked for; behind `closed` the candidate that was finished; last, how many
+/// reports and frames there were. Where candidates alone are asked for, their octets are the only lines.
+/// `refused 16` alone where the octets are no pass record. The receiver is told to release each candidate
+/// as soon as that is written, so its ring never fills where it has as many cells as a CLTU may have
+/// codeblocks.
+pub fn answer_record(
+    heap: Global,
+    setup: Setup,
+    view: View,
+    octets: &[u8],
+) -> Result<String, ReceivingError>
+    ensures answers { IfOk result (λ s. Answers setup view octets.now (string_bytes s)) }
     ensures one { OneText }
 {
     match PassRecord::read(octets) {
-        Ok(pass) => pass_text(heap, pass),
-        Err(refusal) => format!(in heap; "{refusal}\n"),
+        Ok(pass) => pass_text(heap, setup, view, pass),
+        Err(refusal) => Ok(format!(in heap; "{refusal}\n")?),
     }
 }

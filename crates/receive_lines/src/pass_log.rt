@@ -1,5 +1,5 @@
-ghost use Rattle.std.specs.Prelude.{◌+◌, ◌≤◌, length, string_bytes};
-
+use crate::error::one_more;
+use crate::{Place, ReceivingError, View};
 use hexadecimal::capitals;
 use hold::Hold;
 use receiver::Receiver;
@@ -10,56 +10,70 @@ use std::alloc::{AllocError, Global};
 #[derive(Drop)]
 pub(crate) struct PassLog {
     heap: Global,
+    pub(crate) view: View,
     pub(crate) text: String,
-    pub(crate) reports: usize,
-    pub(crate) frames: usize,
-    // Each has a line. A push that fails leaves the text as it was, which `writeln!` does not promise.
-    ghost counted: { reports + frames ≤ length (string_bytes text) },
+    pub(crate) reports: u64,
+    pub(crate) frames: u64,
 }
 
 impl PassLog {
-    ghost use Rattle.std.specs.Prelude.{◌≡◌, [], ◌∷◌, ◌++◌, IfOk, OnOk};
+    ghost use Rattle.std.specs.Prelude.{◌≡◌, [], ◌∷◌, ◌++◌, IfOk, OnOk, string_bytes};
     ghost use Rattle.receiver.specs.Meaning.{held_by};
-    ghost use Rattle.receive_lines.specs.Lines.{report_line, frame_line, end_line};
+    ghost use Rattle.receive_lines.specs.Lines.{told_at, report_line, frame_line, last_line};
     ghost use Rattle.receive_lines.specs.Releasing.{oldest_line, Writes};
 
-    pub(crate) fn new(heap: Global) -> PassLog
+    pub(crate) fn new(heap: Global, view: View) -> PassLog
+        ensures view { result.view ≡ view }
         ensures text { string_bytes result.text ≡ [] }
         ensures reports { result.reports ≡ 0 }
         ensures frames { result.frames ≡ 0 }
     {
         PassLog {
             heap,
+            view,
             text: String::new(heap),
             reports: 0,
             frames: 0,
         }
     }
 
-    // Writes a line for a report.
-    pub(crate) fn write_report(&mut self, report: Report) -> Result<(), AllocError>
-        ensures { OnOk result (Writes (report_line report ∷ []) self.old self.new) }
+    // Writes the lines for a report.
+    pub(crate) fn write_report(
+        &mut self,
+        place: Place,
+        report: Report,
+    ) -> Result<(), ReceivingError>
+        ensures { OnOk result (Writes (report_line (told_at place report) ∷ []) self.old self.new) }
     {
-        let line = format!(in self.heap; "{report}\n")?;
-        self.text.push_str(line.as_str())?;
-        self.reports += 1;
+        self.reports = one_more(self.reports)?;
+        let Place { segment, symbol } = place;
+        match self.view {
+            View::Plain => writeln!(self.text, "{report}")?,
+            View::Places => writeln!(self.text, "at {segment} {symbol}\n{report}")?,
+            View::Candidates => {}
+        }
         Ok(())
     }
 
-    // Writes a line for a candidate.
-    pub(crate) fn write_frame(&mut self, octets: &[u8]) -> Result<(), AllocError>
+    // Writes the line for a candidate.
+    pub(crate) fn write_frame(&mut self, octets: &[u8]) -> Result<(), ReceivingError>
         ensures { OnOk result (Writes (frame_line octets.now ∷ []) self.old self.new) }
     {
+        self.frames = one_more(self.frames)?;
         let count = octets.len();
         let digits = capitals(self.heap, octets)?;
-        let line = format!(in self.heap; "frame {count} {digits}\n")?;
-        self.text.push_str(line.as_str())?;
-        self.frames += 1;
+        match self.view {
+            View::Plain | View::Places => writeln!(self.text, "frame {count} {digits}")?,
+            View::Candidates => writeln!(self.text, "{digits}")?,
+        }
         Ok(())
     }
 
-    // Writes a line for the oldest finished candidate.
-    pub(crate) fn write_oldest<H: Hold>(&mut self, receiver: &Receiver<H>) -> Result<(), AllocError>
+    // Writes the line for the oldest finished candidate.
+    pub(crate) fn write_oldest<H: Hold>(
+        &mut self,
+        receiver: &Receiver<H>,
+    ) -> Result<(), ReceivingError>
         ensures { OnOk result (Writes (oldest_line (held_by H.Hold receiver.now).finished) self.old self.new) }
     {
         if let Ok(octets) = receiver.oldest_length() {
@@ -72,10 +86,14 @@ impl PassLog {
 
     // The text, with its last line.
     pub(crate) fn into_text(mut self) -> Result<String, AllocError>
-        ensures { IfOk result (λ s. string_bytes s ≡ string_bytes self.text ++ end_line self.reports self.frames) }
+        ensures { IfOk result (λ s. string_bytes s
+            ≡ string_bytes self.text ++ last_line self.view self.reports self.frames) }
     {
         let (reports, frames) = (self.reports, self.frames);
-        writeln!(self.text, "end {reports} {frames}")?;
+        match self.view {
+            View::Plain | View::Places => writeln!(self.text, "end {reports} {frames}")?,
+            View::Candidates => {}
+        }
         let PassLog { text, .. } = self;
         Ok(text)
     }

@@ -12,28 +12,29 @@ use Rattle.receive_lines.proofs.answer_record.Goals as goal
 pub returns-in-Ok-clause-answers : goal.returns-in-Ok-clause-answers
 returns-in-Ok-clause-answers c =
     let known = c.in-Ok.ensures in
-    IfOk-weaker c.pass_text.result (λ s. IsTextOf (segments_in c.in-Ok.pass) (string_bytes s)) (λ s. Answers c.args.octets.now (string_bytes s))
-    (λ s. answers_of c.args.octets.now (string_bytes s) (segments_in c.in-Ok.pass) known.answer known.one)
+    IfOk-weaker c.pass_text.result (λ s. IsTextOf c.args.setup c.args.view (segments_in c.in-Ok.pass) (string_bytes s)) (λ s. Answers c.args.setup c.args.view c.args.octets.now (string_bytes s))
+    (λ s. answers_of c.args.setup c.args.view c.args.octets.now (string_bytes s) (segments_in c.in-Ok.pass) known.answer known.one)
     c.pass_text.ensures
 
 sixteen : decimal 16 ≡ codes "16"
 unfolding digits
 sixteen = refl
 
-pub returns-in-Err-clause-answers : goal.returns-in-Err-clause-answers
-returns-in-Err-clause-answers c =
+pub returns-in_ok-format-in-Err-clause-answers : goal.returns-in_ok-format-in-Err-clause-answers
+returns-in_ok-format-in-Err-clause-answers c =
     let known = c.in-Err.ensures.answer in
-    IfOk-weaker c.format.result (λ s. string_bytes s ≡ refusal_text c.in-Err.refusal ++ codes "\n") (λ s. Answers c.args.octets.now (string_bytes s))
-    (λ s text. record {
+    record {
       read = λ segments record_of. absurd (known.none segments record_of);
-      sent = λ sent within record_of. absurd (known.none _ record_of);
-      alone = λ randomizer frame octets some few record_of. absurd (known.none _ record_of);
-      refused = λ none. text ∙ ap (λ why. refusal_text why ++ codes "\n") known.reason ∙ ap (λ digits. codes "refused " ++ digits ++ codes "\n") sixteen;
-    })
-    c.format.ensures.ok
+      sent = λ sent enough within record_of. absurd (known.none _ record_of);
+      alone = λ randomizer frame enough octets some few record_of. absurd (known.none _ record_of);
+      refused = λ none. c.in_ok-format-in-Err.ensures.ok ∙ ap (λ why. refusal_text why ++ codes "\n") known.reason ∙ ap (λ digits. codes "refused " ++ digits ++ codes "\n") sixteen;
+    }
 
 pub returns-in-Ok-clause-one : goal.returns-in-Ok-clause-one
 returns-in-Ok-clause-one c = one_text
 
-pub returns-in-Err-clause-one : goal.returns-in-Err-clause-one
-returns-in-Err-clause-one c = one_text
+pub returns-in_ok-format-in-Err-clause-one : goal.returns-in_ok-format-in-Err-clause-one
+returns-in_ok-format-in-Err-clause-one c = one_text
+
+pub returns-in_err-format-in-Err-clause-one : goal.returns-in_err-format-in-Err-clause-one
+returns-in_err-format-in-Err-clause-one c = one_text

@@ -1,31 +1,28 @@
--- The text of a ring of 37 cells. Assumes nothing.
-use Rattle.std.proofs.Common.{string_bytes, None, refl, ap, ◌∙◌, ap₂, arith}
+-- The text of a ring, with a layer over it or without. Assumes nothing.
+use Rattle.std.proofs.Common.{string_bytes, sym, ap, ◌∙◌}
 use Rattle.std.proofs.lemmas.Result.{IfOk-weaker}
-use Rattle.hold.specs.Plain.{plain_showing}
-use Rattle.reception.specs.Rules.{INACTIVE, state}
-use Rattle.reception.proofs.Decoding.{held}
 use Rattle.pass_record.specs.Segments.{segments_in}
-use Rattle.receive_lines.specs.Lines.{whole_text}
-use Rattle.receive_lines.specs.Pass.{rules, pass_events, ready_for}
+use Rattle.receive_lines.specs.Pass.{showing_for}
 use Rattle.receive_lines.specs.Answers.{IsTextOf}
-use Rattle.receive_lines.specs.Releasing.{lines_of}
-use Rattle.receive_lines.proofs.Emptied.{emptied, lines_fit}
+use Rattle.receive_lines.proofs.Texts.{is_text_of, over_ring}
 use Rattle.receive_lines.proofs.pass_text.Goals as goal
+
+pub returns-in-On : goal.returns-in-On
+returns-in-On c =
+    let setup = c.args.setup in
+    let segments = segments_in c.args.pass in
+    let ring = c.new-ring.ensures in
+    let start = over_ring _ _ setup.cells _ (c.over.ensures.capacity ∙ ring.capacity) (c.as_mut_slice.ensures.len ∙ c.in_ok-cells.ensures.cells) c.in_ok-cells.ensures.few (c.over.ensures.finished ∙ ring.finished) in
+    IfOk-weaker c.text_over.result _ (λ text. IsTextOf setup c.args.view segments (string_bytes text))
+    (λ text is. is_text_of setup c.args.view segments (string_bytes text) _ _ (ap showing_for (sym c.in-On.is)) start is)
+    c.text_over.ensures
 
 pub returns : goal.returns
 returns c =
+    let setup = c.args.setup in
     let segments = segments_in c.args.pass in
-    let events = pass_events segments in
-    let s = ready_for events in
-    let lines = lines_of rules plain_showing (emptied 37 s) events in
-    let fits = lines_fit rules plain_showing 37 (omega arith) s events refl (omega arith) in
-    IfOk-weaker c.text_over.result _ (λ text. IsTextOf segments (string_bytes text))
-    (λ text is. record {
-      lines = lines;
-      written = is ∙ ap (λ t. whole_text (lines_of rules plain_showing t events)) (ap₂ (λ k f. state INACTIVE (held k f None)) c.new.ensures.capacity c.new.ensures.finished);
-      reports = fits.reports;
-      frames = fits.frames;
-      order = fits.order;
-      never_full = fits.never_full;
-    })
-    c.text_over.ensures
+    let ring = c.new-ring.ensures in
+    let start = over_ring _ _ setup.cells _ ring.capacity (c.as_mut_slice.ensures.len ∙ c.in_ok-cells.ensures.cells) c.in_ok-cells.ensures.few ring.finished in
+    IfOk-weaker c.text_over-in-Off.result _ (λ text. IsTextOf setup c.args.view segments (string_bytes text))
+    (λ text is. is_text_of setup c.args.view segments (string_bytes text) _ _ (ap showing_for (sym c.in-Off.is)) start is)
+    c.text_over-in-Off.ensures

@@ -1,17 +1,18 @@
 -- A segment. Assumes nothing.
-use Rattle.std.proofs.Common.{[], ◌∷◌, ◌++◌, refl}
+use Rattle.std.proofs.Common.{[], ◌∷◌, ◌++◌, refl, ap, ◌∙◌}
 use Rattle.std.proofs.lemmas.Result.{on_ok_weaker}
 use Rattle.pass_record.specs.Segments.{symbols_in}
-use Rattle.reception.specs.Rules.{carrier_up, carrier_down}
-use Rattle.reception.specs.Calls.{symbol_events}
-use Rattle.receive_lines.proofs.Passes.{passed_up, passed_then}
+use Rattle.receive_lines.proofs.Passes.{segment_passed}
 use Rattle.receive_lines.proofs.receiving.Receiving.take_segment.Goals as goal
 
-pub returns : goal.returns
-returns g c =
-    let symbols = symbol_events (symbols_in c.args.segment) in
-    let down = carrier_down ∷ [] in
+pub returns-clause-place : goal.returns-clause-place
+returns-clause-place g c =
     on_ok_weaker c.end_segment.result
-    (λ ended. passed_then g.H.Hold (carrier_up ∷ []) (symbols ++ down) _ _ _ (passed_up g.H.Hold _ _ c.carrier_up.ensures.after refl)
-    (passed_then g.H.Hold symbols down _ _ _ c.in_ok-take_symbols.ensures ended))
-    c.end_segment.ensures
+    (λ same. ap (λ p. p.segment) (same ∙ c.in_ok-take_symbols.ensures.place) ∙ ap (λ p. p.segment) c.in_ok-begin_segment.ensures.place)
+    c.end_segment.ensures.place
+
+pub returns-clause-passed : goal.returns-clause-passed
+returns-clause-passed g c =
+    on_ok_weaker c.end_segment.result
+    (λ ended. segment_passed g.H.Hold (symbols_in c.args.segment) _ _ _ _ c.in_ok-begin_segment.ensures.place c.in_ok-begin_segment.ensures.passed c.in_ok-take_symbols.ensures ended)
+    c.end_segment.ensures.passed
