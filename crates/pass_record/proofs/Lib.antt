@@ -4,5 +4,7 @@ mod Octets
 mod Packing
 mod Places
 mod Laid
+mod Written
+mod Kept
 mod Within
 mod Coming

@@ -1,5 +1,5 @@
 -- The segments of a pass record that was read, the symbols of a segment, and what reading answers. Assumes nothing.
-use Rattle.std.specs.Prelude.{◌≡◌, ℕ, ◌-◌, Bool, List, take, drop}
+use Rattle.std.specs.Prelude.{◌≡◌, ℕ, ◌-◌, Bool, List, take, drop, Result, IsOkAnd}
 use Rattle.bch.specs.Bits.{bits_of}
 use Rattle.refusals.specs.declared.Refusal.{Refusal}
 use Rattle.refusals.specs.declared.Refusal.TheVariants.{RecordLayout}
@@ -31,3 +31,8 @@ symbols_left to_come =
 pub record RefusedLayout (octets : List ℕ) (why : Refusal) : Type 0 where
   pub reason : why ≡ RecordLayout
   pub none : (segments : List (List Bool)) → IsRecord octets segments → ⊥
+
+-- octets that are the record of segments are read, and the record has these segments
+abbrev pub GivesBack : List ℕ → Result PassRecord Refusal → Type 0
+GivesBack octets answer =
+    (segments : List (List Bool)) → IsRecord octets segments → IsOkAnd answer (λ pass. segments_in pass ≡ segments)

@@ -1,4 +1,4 @@
-//! Reading a pass record: segments of received symbols, in octets that the caller lends.
+//! Reading and writing a pass record: segments of received symbols, in octets that the caller lends.
 #![tactic(auto)]
 
 ghost use Rattle.std.specs.Prelude.{◌≡◌, ℕ, ◌+◌, ◌%◌, ◌^◌, ◌<◌, ◌≤◌, length, Decides, MatchOption, MatchResult, ◌==◌, slice_index};
@@ -7,7 +7,7 @@ ghost use Rattle.std.specs.Iterator.{YieldsFirst, YieldsFirstBy, item_count};
 ghost use Rattle.std.specs.List.{slice_get};
 ghost use Rattle.pass_record.specs.Record.{octets_for, IsRecord, OneListOfSegments};
 ghost use Rattle.pass_record.specs.Reading.{number_at, unused, told_place, told_count, told_begin, told_size, RightEnd, RightEntry, Tells};
-ghost use Rattle.pass_record.specs.Segments.{segments_in, symbols_in, segments_left, symbols_left, RefusedLayout};
+ghost use Rattle.pass_record.specs.Segments.{segments_in, symbols_in, segments_left, symbols_left, RefusedLayout, GivesBack};
 
 use refusals::Refusal;
 use std::array;
@@ -15,9 +15,11 @@ use std::ops::Range;
 
 mod record;
 mod segment;
+mod writing;
 
 pub use record::PassRecord;
 pub use segment::Segment;
+pub use writing::{record_length, write_record};
 
 // What the entry of a segment tells.
 #[derive(Clone, Copy)]
@@ -128,6 +130,7 @@ impl<'a> PassRecord<'a> {
             (λ pass. IsRecord octets.now (segments_in pass))
             (RefusedLayout octets.now) }
         ensures one { OneListOfSegments octets.now }
+        ensures back { GivesBack octets.now result }
     {
         if is_laid_out(octets) {
             Ok(PassRecord { octets })
