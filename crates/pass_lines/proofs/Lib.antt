@@ -1,0 +1,6 @@
+-- The lemmas that the proofs of this crate share. Assumes nothing.
+mod Cuts
+mod FirstLine
+mod Reading
+mod Receiving
+mod Sending

@@ -1,0 +1,5 @@
+-- What the program `pass` makes of lines. Assumes nothing.
+pub mod Given
+pub mod Cltus
+pub mod Symbols
+pub mod Received
