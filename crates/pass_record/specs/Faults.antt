@@ -1,6 +1,6 @@
 -- What is wrong with octets that are no record: the first thing in the order of reading. Assumes nothing.
 use Rattle.std.specs.Prelude.{◌≡◌, ◌≢◌, ℕ, zero, suc, ◌+◌, ◌*◌, ◌%◌, ◌^◌, ◌<◌, ◌≤◌, List, length, slice_index_or}
-use Rattle.pass_record.specs.Record.{octets_for, IsRecord}
+use Rattle.pass_record.specs.Record.{octets_for}
 use Rattle.pass_record.specs.Reading.{unused, told_count, told_place, told_begin, told_size, RightEnd, RightEntry}
 use Rattle.pass_record.specs.declared.entry_fault.EntryFault.{EntryFault}
 use Rattle.pass_record.specs.declared.entry_fault.EntryFault.TheVariants.{BeginsElsewhere, NoSymbols, PastFirstEntry, PaddingNotZero}

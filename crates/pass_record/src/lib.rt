@@ -311,6 +311,7 @@ impl Iterator for Bits<'_> {
 #[cfg(test)]
 mod tests {
     use super::*;
+    use std::alloc::Global;
     use std::test::Fail;
 
     // One CLTU of one codeblock, 144 symbols.
@@ -369,6 +370,36 @@ mod tests {
     fn no_segment(rt: HostRuntime) -> Result<(), Fail> {
         assert!(rt; PassRecord::read(&[0; 8])?.count() == 0);
         assert!(rt; refused(&[]) && refused(&[0; 7]) && refused(&[0; 9]));
+        Ok(())
+    }
+
+    // Whether this is the text of what is wrong with two segments with another octet at a place.
+    fn tells(heap: Global, place: usize, octet: u8, text: &str) -> Result<bool, Fail> {
+        let mut octets = TWO_SEGMENTS;
+        if place < octets.len() {
+            octets[place] = octet;
+        }
+        let fault = fault(&octets).ok_or("no fault")?;
+        Ok(fault.to_string(heap)?.as_str() == text)
+    }
+
+    #[test]
+    fn faults(rt: HostRuntime) -> Result<(), Fail> {
+        let heap = rt.alloc();
+        assert!(rt; fault(&TWO_SEGMENTS) == None);
+        assert!(rt; fault(&TWO_SEGMENTS[..7]) == Some(RecordFault::TooShort { octets: 7 }));
+        let ends = "the entries end at place 20, and are due to end at place 19";
+        assert!(rt; tells(heap, 26, 4, ends)?);
+        let begins = "entry 2: its segment begins at place 2, and is due at place 1";
+        assert!(rt; tells(heap, 14, 2, begins)?);
+        assert!(rt; tells(heap, 10, 0, "entry 1: its segment has no symbols")?);
+        let past = "entry 2: its segment ends at place 4, past the first entry at place 3";
+        assert!(rt; tells(heap, 18, 17, past)?);
+        let padding =
+            "entry 1: the padding in the last octet of its segment, at place 0, is not zero";
+        assert!(rt; tells(heap, 0, 0xB0, padding)?);
+        let gap = "the octets from place 2 up to the first entry, at place 3, belong to no segment";
+        assert!(rt; tells(heap, 18, 8, gap)?);
         Ok(())
     }
 

@@ -1,6 +1,6 @@
 -- A record passes every test, and what passes every test is a record. Assumes nothing.
-use Rattle.std.proofs.Common.{◌≡◌, ◌+◌, ◌<◌, sym, refl, ◌∙◌, subst, arith}
-use Rattle.pass_record.specs.Reading.{told_count, told_place, RightEnd}
+use Rattle.std.proofs.Common.{◌≡◌, ◌<◌, sym, refl, subst, arith}
+use Rattle.pass_record.specs.Reading.{told_count, told_place}
 use Rattle.pass_record.specs.Faults.{due, RightTo, IsEntryFault}
 use Rattle.pass_record.proofs.Laid.{LaidTo, laid_more, laid_all}
 use Rattle.pass_record.proofs.FirstFault.{no_record_by_end, no_record_by_entry, no_record_by_rest, due_next, right_more}
