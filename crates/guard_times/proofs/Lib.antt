@@ -3,3 +3,4 @@ pub mod Ceiling
 pub mod RowsLemmas
 pub mod Columns
 pub mod OneText
+pub mod Texts

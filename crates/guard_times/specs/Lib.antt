@@ -5,3 +5,4 @@ pub mod Rows
 pub mod Csv
 pub mod Table
 pub mod Answers
+pub mod Arguments

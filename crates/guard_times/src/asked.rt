@@ -1,6 +1,10 @@
+use crate::arguments::{asked_form, asked_limits, asked_rate};
 use crate::{BitRate, GuardTime, Row, csv_text, table_text};
 use bch::Mode;
+use clap::ArgMatches;
 use cltu::CodeblockLimit;
+use command_line::Failure;
+use receiver_options::asked_mode;
 use std::alloc::{AllocError, Global};
 
 /// The form of a text that tells guard times.
@@ -26,9 +30,26 @@ pub struct Asked {
 }
 
 impl Asked {
-    ghost use Rattle.std.specs.Prelude.{Some, IfOk, OnOk, string_bytes};
+    ghost use Rattle.std.specs.Prelude.{◌≡◌, Some, IfOk, IfErr, OnOk, string_bytes};
+    ghost use Rattle.command_line.specs.Status.{failure_status};
+    ghost use Rattle.guard_times.specs.Arguments.{Asks};
+    ghost use Rattle.guard_times.specs.declared.asked.Asked.{Asked as TheAsked};
     ghost use Rattle.guard_times.specs.Answers.{Answers, OneText};
     ghost use Rattle.guard_times.specs.Rows.{AreRowsOf, AddsRows, guards_of_limit, guards_asked};
+
+    /// What the arguments ask for. They are wrong where an option has a value that it does not take.
+    pub fn by(heap: Global, matches: &ArgMatches<'_>) -> Result<Asked, Failure>
+        ensures asked { IfOk result (Asks matches.now) }
+        ensures refused { IfErr result (λ failure. failure_status failure ≡ 2
+            → (asked : TheAsked) → Asks matches.now asked → ⊥) }
+    {
+        Ok(Asked {
+            limits: asked_limits(heap, matches)?,
+            mode: asked_mode(heap, matches)?,
+            rate: asked_rate(heap, matches)?,
+            form: asked_form(matches),
+        })
+    }
 
     /// The rows: the limits in the order asked for, each in correcting mode before detecting.
     pub fn rows(&self, heap: Global) -> Result<Vec<Row>, AllocError>

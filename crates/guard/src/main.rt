@@ -1,0 +1,34 @@
+//! `guard`: prints how long the idle between two commands has to be.
+#![tactic(auto)]
+
+use clap::{ArgMatches, Command};
+use command_line::{Failure, program, run, words};
+use guard_times::{Asked, csv_option, limits_option, rate_option};
+use receiver_options::mode_option;
+use std::alloc::{AllocError, Global};
+use std::process::ExitCode;
+
+const NAME: &str = "guard";
+
+fn command<'a>(heap: Global) -> Result<Command<'a>, AllocError> {
+    program(heap, NAME)
+        .about("Prints guard times: the idle that has to lie between two commands")
+        .arg(limits_option(heap))?
+        .arg(mode_option(heap))?
+        .arg(rate_option(heap))?
+        .arg(csv_option(heap))
+}
+
+fn work<R: Print + AllocGlobal>(rt: &R, matches: &ArgMatches<'_>) -> Result<(), Failure> {
+    let asked = Asked::by(rt.alloc(), matches)?;
+    let text = asked.text(rt.alloc())?;
+    rt.print(text.as_str())?;
+    Ok(())
+}
+
+fn main(rt: HostRuntime) -> ExitCode {
+    let words = words(&rt);
+    run(&rt, NAME, command(rt.alloc()), &words, |matches| {
+        work(&rt, matches)
+    })
+}
