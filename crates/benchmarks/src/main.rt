@@ -3,9 +3,10 @@
 
 use bch::{Accepted, Mode};
 use chain::{Chain, LinkedCell};
+use clap::{Arg, ArgMatches, Command};
 use cltu::{CodeblockLimit, LONGEST_CLTU, Sender};
 use coding::{codeblock, judge};
-use command_line::{Program, Task, arguments};
+use command_line::{Failure, program, run, words};
 use decoding::Settings;
 use hold::{Hold, copy_oldest};
 use queue::Queue;
@@ -14,11 +15,13 @@ use receiver::Receiver;
 use reception::Report;
 use ring::{Cell, Ring};
 use searching::Symbol;
+use std::alloc::{AllocError, Global};
 use std::process::ExitCode;
 use std::rt::Clock;
 use std::time::Instant;
 use std::{array, fmt};
 
+// What is printed where nothing is to be measured.
 const HELP: &str = "\
 benchmarks: what the code costs, against rivals in the same run
 
@@ -802,18 +805,33 @@ fn time(rt: &(impl Print + Clock)) -> anyhow::Result<()> {
     time_symbols(rt)
 }
 
-/// The program as its user calls it.
-const PROGRAM: Program = Program {
-    name: "benchmarks",
-    arguments: "time",
-    help: HELP,
-};
+const NAME: &str = "benchmarks";
 
-/// What the argument asks for.
-fn asked_task(argument: &str) -> Option<Task<()>> {
-    (argument == "time").then_some(Task::Work(()))
+fn command<'a>(heap: Global) -> Result<Command<'a>, AllocError> {
+    program(heap, NAME)
+        .about("What the code costs, against rivals in the same run")
+        .arg(Arg::new(heap, "WHAT").help("time: measures; without it, nothing is measured"))
 }
 
-fn main(rt: HostRuntime) -> anyhow::Result<ExitCode> {
-    PROGRAM.run(&rt, arguments(&rt), Task::Help, asked_task, |()| time(&rt))
+fn work(rt: &(impl Print + Clock + AllocGlobal), matches: &ArgMatches<'_>) -> Result<(), Failure> {
+    match matches.get_str("WHAT") {
+        None => rt.println(HELP)?,
+        Some("time") => time(rt)?,
+        Some(other) => {
+            let why = format!(in rt.alloc(); "'{other}' cannot be measured; time can")?;
+            return Err(Failure::Arguments(why));
+        }
+    }
+    Ok(())
+}
+
+fn main(rt: HostRuntime) -> ExitCode {
+    let words = words(&rt);
+    run(
+        &rt,
+        NAME,
+        command(rt.alloc()),
+        &words,
+        |matches| work(&rt, matches),
+    )
 }
