@@ -3,9 +3,9 @@
 
 use bch::{Accepted, Mode};
 use chain::{Chain, LinkedCell};
+use clap::{Arg, ArgMatches, Command};
 use cltu::{CodeblockLimit, LONGEST_CLTU, Sender};
 use coding::{codeblock, judge};
-use clap::{Arg, ArgMatches, Command};
 use command_line::{Failure, program, run, words};
 use decoding::Settings;
 use hold::{Hold, copy_oldest};
@@ -21,6 +21,7 @@ use std::rt::Clock;
 use std::time::Instant;
 use std::{array, fmt};
 
+// What is printed where nothing is to be measured.
 const HELP: &str = "\
 benchmarks: what the code costs, against rivals in the same run
 
@@ -808,22 +809,29 @@ const NAME: &str = "benchmarks";
 
 fn command<'a>(heap: Global) -> Result<Command<'a>, AllocError> {
     program(heap, NAME)
-        .override_help(HELP)
-        .arg(Arg::new(heap, "time").value_parser(["time"].as_slice()))
+        .about("What the code costs, against rivals in the same run")
+        .arg(Arg::new(heap, "WHAT").help("time: measures; without it, nothing is measured"))
 }
 
-fn work<R>(rt: &R, matches: &ArgMatches<'_>) -> Result<(), Failure>
-where
-    R: Print + Clock + AllocGlobal,
-{
-    match matches.get_str("time") {
-        Some(_) => time(rt)?,
+fn work(rt: &(impl Print + Clock + AllocGlobal), matches: &ArgMatches<'_>) -> Result<(), Failure> {
+    match matches.get_str("WHAT") {
         None => rt.println(HELP)?,
+        Some("time") => time(rt)?,
+        Some(other) => {
+            let why = format!(in rt.alloc(); "'{other}' cannot be measured; time can")?;
+            return Err(Failure::Arguments(why));
+        }
     }
     Ok(())
 }
 
 fn main(rt: HostRuntime) -> ExitCode {
     let words = words(&rt);
-    run(&rt, NAME, command(rt.alloc()), &words, |matches| work(&rt, matches))
+    run(
+        &rt,
+        NAME,
+        command(rt.alloc()),
+        &words,
+        |matches| work(&rt, matches),
+    )
 }

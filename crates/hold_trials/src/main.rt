@@ -4,6 +4,7 @@
 #![tactic(auto)]
 
 use chain::{Chain, LinkedCell};
+use command_line::{Failure, program, run, words};
 use derandomizing::Derandomizing;
 use hold::{Hold, copy_oldest};
 use rand::RngExt;
@@ -13,6 +14,7 @@ use refusals::Refusal;
 use ring::{Cell, Ring};
 use std::alloc::{AllocError, AllocFailed, Global};
 use std::collections::VecDeque;
+use std::process::ExitCode;
 
 /// Why the model does not do what is asked: it refuses, as a hold does, or memory ran out.
 #[derive(Drop)]
@@ -229,7 +231,7 @@ impl<R: Hold, C: Hold> Trial<R, C> {
 
 /// Does so many operations to two empty holds and to the model of them, and prints how they were answered.
 fn tried<R: Hold + Drop, C: Hold + Drop>(
-    rt: &HostRuntime,
+    rt: &impl Print,
     what: &str,
     ring: R,
     chain: C,
@@ -249,18 +251,19 @@ fn tried<R: Hold + Drop, C: Hold + Drop>(
     Ok(())
 }
 
-fn main(rt: HostRuntime) -> anyhow::Result<()> {
+/// All trials.
+fn work(rt: &(impl Print + AllocGlobal)) -> Result<(), Failure> {
     let heap = rt.alloc();
     let mut cells = [Cell::EMPTY; 5];
     let mut links = [LinkedCell::EMPTY; 5];
     let (ring, chain) = (Ring::new(&mut cells), Chain::new(&mut links));
     let model = Model::new(heap, 5, Randomizer::Off);
-    tried(&rt, "ring and chain of 5 cells", ring, chain, model, 20000)?;
+    tried(rt, "ring and chain of 5 cells", ring, chain, model, 20000)?;
 
     let (ring, chain) = (Ring::new(&mut cells), Chain::new(&mut links));
     let model = Model::new(heap, 5, Randomizer::Off);
     tried(
-        &rt,
+        rt,
         "ring and chain of the same cells",
         ring,
         chain,
@@ -271,18 +274,29 @@ fn main(rt: HostRuntime) -> anyhow::Result<()> {
     let ring = Derandomizing::over(Ring::new(&mut cells));
     let chain = Derandomizing::over(Chain::new(&mut links));
     let model = Model::new(heap, 5, Randomizer::On);
-    tried(&rt, "layers over both", ring, chain, model, 20000)?;
+    tried(rt, "layers over both", ring, chain, model, 20000)?;
 
     let mut cells = [Cell::EMPTY; 9];
     let mut links = [LinkedCell::EMPTY; 9];
     let (ring, chain) = (Ring::new(&mut cells), Chain::new(&mut links));
     let model = Model::new(heap, 9, Randomizer::Off);
-    tried(&rt, "ring and chain of 9 cells", ring, chain, model, 20000)?;
+    tried(rt, "ring and chain of 9 cells", ring, chain, model, 20000)?;
 
     let mut cells = [Cell::EMPTY; 0];
     let mut links = [LinkedCell::EMPTY; 0];
     let (ring, chain) = (Ring::new(&mut cells), Chain::new(&mut links));
     let model = Model::new(heap, 0, Randomizer::Off);
-    tried(&rt, "ring and chain of no cells", ring, chain, model, 2000)?;
+    tried(rt, "ring and chain of no cells", ring, chain, model, 2000)?;
     Ok(())
+}
+
+const NAME: &str = "hold_trials";
+
+fn main(rt: HostRuntime) -> ExitCode {
+    let words = words(&rt);
+    let command = program(rt.alloc(), NAME).about(
+        "Runs a ring and a chain, and the layer over each, beside a model that keeps lists, and \
+counts the answers that differ",
+    );
+    run(&rt, NAME, Ok(command), &words, |_| work(&rt))
 }

@@ -2,9 +2,14 @@
 #![tactic(auto)]
 
 use bch::{Accepted, INFORMATION_OCTETS, Mode};
+use clap::{ArgMatches, Command};
 use coding::{codeblock, judge, syndrome, wrong_place};
+use command_line::{Failure, input_file, named_file, opened, program, run, words};
 use hex::FromHex;
 use std::alloc::{AllocError, Global};
+use std::fs::Files;
+use std::io::{BufRead, BufReader, Read};
+use std::process::ExitCode;
 
 /// What a line asks of the code.
 #[derive(Clone, Copy)]
@@ -72,10 +77,42 @@ fn answer(heap: Global, line: &str) -> Result<String, AllocError> {
     }
 }
 
-fn main(rt: HostRuntime) -> anyhow::Result<()> {
+// Prints the answer to each line.
+fn print_answers<R: Read + Drop>(rt: &(impl Print + AllocGlobal), input: R) -> Result<(), Failure> {
     let heap = rt.alloc();
-    for line in rt.lines(heap) {
+    for line in BufReader::new(heap, input)?.lines(heap) {
         rt.println(answer(heap, line?.as_str())?)?;
     }
     Ok(())
+}
+
+fn work<R>(rt: &R, matches: &ArgMatches<'_>) -> Result<(), Failure>
+where
+    R: Print + Input + Files + AllocGlobal,
+{
+    match named_file(matches) {
+        Some(name) => print_answers(rt, opened(rt, name)?),
+        None => print_answers(rt, rt.reader()),
+    }
+}
+
+const NAME: &str = "outside_vectors";
+
+fn command<'a>(heap: Global) -> Result<Command<'a>, AllocError> {
+    program(heap, NAME)
+        .about(
+            "Answers lines that ask for a codeblock or for a verdict, to be compared with another encoder",
+        )
+        .arg(input_file(heap))
+}
+
+fn main(rt: HostRuntime) -> ExitCode {
+    let words = words(&rt);
+    run(
+        &rt,
+        NAME,
+        command(rt.alloc()),
+        &words,
+        |matches| work(&rt, matches),
+    )
 }

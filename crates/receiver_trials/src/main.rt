@@ -5,6 +5,7 @@ use anyhow::Context;
 use bch::Mode;
 use chain::{Chain, LinkedCell};
 use cltu::{CodeblockLimit, LONGEST_CLTU, Sender};
+use command_line::{Failure, program, words};
 use decoding::Settings;
 use derandomizing::Derandomizing;
 use hold::Hold;
@@ -19,6 +20,7 @@ use refusals::Refusal;
 use ring::{Cell, Ring};
 use std::alloc::{AllocError, Global};
 use std::collections::VecDeque;
+use std::process::ExitCode;
 use std::{fmt, iter};
 
 /// One of these, or 0 where there are none.
@@ -967,9 +969,10 @@ fn with_room(setup: Setup) -> Setup {
     }
 }
 
-fn main(rt: HostRuntime) -> anyhow::Result<()> {
+/// All trials.
+fn work(rt: &(impl Print + AllocGlobal)) -> Result<(), Failure> {
     let mut trials = Trials {
-        rt: &rt,
+        rt,
         numbers: Pcg32::new(1, 0),
         differences: 0,
     };
@@ -985,4 +988,14 @@ fn main(rt: HostRuntime) -> anyhow::Result<()> {
     let differences = trials.differences;
     println!(rt; "differences: {differences}")?;
     Ok(())
+}
+
+const NAME: &str = "receiver_trials";
+
+fn main(rt: HostRuntime) -> ExitCode {
+    let words = words(&rt);
+    let command = program(rt.alloc(), NAME).about(
+        "Runs receivers beside a model of reception in plain lists, and counts the answers that differ",
+    );
+    command_line::run(&rt, NAME, Ok(command), &words, |_| work(&rt))
 }

@@ -4,6 +4,7 @@
 use anyhow::{Context, Result, bail};
 use bch::Mode;
 use cltu::LONGEST_CLTU;
+use command_line::{Failure, program, words};
 use decoding::Settings;
 use derandomizing::Derandomizing;
 use hold::Hold;
@@ -19,6 +20,7 @@ use ring::{Cell, Ring};
 use session::{AfterSending, Carrier, FrameSpan, Job, Locked, Sent, Silent};
 use std::alloc::{AllocError, Global};
 use std::collections::VecDeque;
+use std::process::ExitCode;
 
 /// What a session and its receiver are set to.
 #[derive(Clone, Copy)]
@@ -692,7 +694,8 @@ fn random_octets(heap: Global, length: usize) -> Result<Vec<u8>, AllocError> {
     Ok(octets)
 }
 
-fn main(rt: HostRuntime) -> anyhow::Result<()> {
+/// A session of every setup.
+fn work(rt: &(impl Print + AllocGlobal)) -> Result<(), Failure> {
     let frames = random_octets(rt.alloc(), FRAME_MEMORY)?;
     let mut differences: u64 = 0;
     let mut stream: u64 = 0;
@@ -709,7 +712,7 @@ fn main(rt: HostRuntime) -> anyhow::Result<()> {
                         mode,
                         stream,
                     };
-                    let more = report(&rt, setup, frames.as_slice())?;
+                    let more = report(rt, setup, frames.as_slice())?;
                     differences = differences.saturating_add(more);
                 }
             }
@@ -717,4 +720,14 @@ fn main(rt: HostRuntime) -> anyhow::Result<()> {
     }
     println!(rt; "differences: {differences}")?;
     Ok(())
+}
+
+const NAME: &str = "session_trials";
+
+fn main(rt: HostRuntime) -> ExitCode {
+    let words = words(&rt);
+    let command = program(rt.alloc(), NAME).about(
+        "Runs sessions into receivers: what is sent has to come back, and what differs is counted",
+    );
+    command_line::run(&rt, NAME, Ok(command), &words, |_| work(&rt))
 }
