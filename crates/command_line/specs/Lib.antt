@@ -1,3 +1,3 @@
--- What a program is asked for, and how it ends. Assumes nothing.
-pub mod Arguments
-pub mod Asked
+-- How a program's run ends, what its arguments are, and the numbers in them. Assumes nothing.
+pub mod Status
+pub mod Number
