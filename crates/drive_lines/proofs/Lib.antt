@@ -2,3 +2,5 @@
 pub mod Numbers
 pub mod Written
 pub mod Queued
+pub mod LastLine
+pub mod Session

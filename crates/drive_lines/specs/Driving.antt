@@ -1,5 +1,5 @@
 -- What the line of a driven receiver makes of it. Assumes nothing.
-use Rattle.std.specs.Prelude.{◌≡◌, ℕ, ◌+◌, List, ◌++◌, length, Option, Some, None}
+use Rattle.std.specs.Prelude.{◌≡◌, ℕ, ◌+◌, List, ◌++◌, length, Option, Some, None, IfSome}
 use Rattle.std.specs.Io.KnownBytes.{Appends, Consumes, IsAtEnd}
 use Rattle.hold.specs.declared.Hold.{Ghosts}
 use Rattle.reception.specs.Decoding.{Settings}
@@ -50,10 +50,10 @@ module _ {X : Type 0} (hold : Ghosts X) where
         printed_in after ≡ printed_in before
         + length (reports_at rules hold.showing (slots_in before) (driven_of hold (receiver_in before)) line)
 
-  -- the octets that the reader gave are all that it had, and the writer has got the text for them
+  -- the octets that the reader gave are all that it had, as far as that is known, and the writer has got the text for them
   pub record PrintsAll (slots : ℕ) (receiver : Receiver X) (input input_after output output_after : Option (List ℕ)) : Type 0 where
     pub octets : List ℕ
     pub given : Consumes input input_after octets
-    pub all : IsAtEnd input_after
+    pub all : IfSome input (λ _. IsAtEnd input_after)
     pub text : Appends output output_after
         (printed (rules_of (settings_of receiver)) hold.showing slots (driven_of hold receiver) octets)
