@@ -1,0 +1,3 @@
+-- The options of a receiver. Assumes nothing.
+pub mod Options
+pub mod Asked
