@@ -4,5 +4,8 @@ mod Octets
 mod Packing
 mod Places
 mod Laid
+mod FirstFault
+mod Written
+mod Kept
 mod Within
 mod Coming

@@ -1,8 +1,8 @@
 -- What octets tell at the places where a pass record has its numbers, and what makes these right. Assumes nothing.
-use Rattle.std.specs.Prelude.{◌≡◌, ℕ, ◌+◌, ◌-◌, ◌*◌, ◌%◌, ◌^◌, ◌<◌, ◌≤◌, Bool, true, false, List, map, length, take, drop, slice_index, slice_index_or}
+use Rattle.std.specs.Prelude.{◌≡◌, ℕ, ◌+◌, ◌-◌, ◌*◌, ◌%◌, ◌^◌, ◌<◌, ◌≤◌, Bool, List, map, length, take, drop, slice_index, slice_index_or}
 use Rattle.std.specs.List.{range_with_len}
 use Rattle.bch.specs.Bits.{bits_of}
-use Rattle.pass_record.specs.Record.{octets_for, IsRecord}
+use Rattle.pass_record.specs.Record.{octets_for}
 
 -- the number in the four octets from a place on, the highest first
 abbrev pub number_at : List ℕ → ℕ → ℕ
@@ -54,8 +54,3 @@ module _ (octets : List ℕ) where
     pub some : 0 < told_size i
     pub within : begin + octets_for (told_size i) ≤ told_place
     pub padded : slice_index_or octets (begin + octets_for (told_size i) - 1) 0 % 2 ^ unused (told_size i) ≡ 0
-
-  -- whether they are a record, and of which segments
-  pub record Tells (answer : Bool) : Type 0 where
-    pub taken : answer ≡ true → IsRecord octets told_segments
-    pub refused : answer ≡ false → (segments : List (List Bool)) → IsRecord octets segments → ⊥

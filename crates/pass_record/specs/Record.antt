@@ -46,6 +46,10 @@ pub record IsRecord (octets : List ℕ) (segments : List (List Bool)) : Type 0 w
   pub most : length octets ≤ 65535
   pub some : AllByRecursion (λ segment. 0 < length segment) segments
 
+-- octets are the record of no segments whatever
+abbrev pub IsNoRecord : List ℕ → Type 0
+IsNoRecord octets = (segments : List (List Bool)) → IsRecord octets segments → ⊥
+
 -- octets are the record of one list of segments only
 abbrev pub OneListOfSegments : List ℕ → Type 0
 OneListOfSegments octets = (a b : List (List Bool)) → IsRecord octets a → IsRecord octets b → a ≡ b

@@ -1,9 +1,9 @@
 -- The segments of a pass record that was read, the symbols of a segment, and what reading answers. Assumes nothing.
-use Rattle.std.specs.Prelude.{◌≡◌, ℕ, ◌-◌, Bool, List, take, drop}
+use Rattle.std.specs.Prelude.{◌≡◌, ℕ, ◌-◌, Bool, List, take, drop, Result, IsOkAnd}
 use Rattle.bch.specs.Bits.{bits_of}
 use Rattle.refusals.specs.declared.Refusal.{Refusal}
 use Rattle.refusals.specs.declared.Refusal.TheVariants.{RecordLayout}
-use Rattle.pass_record.specs.Record.{IsRecord}
+use Rattle.pass_record.specs.Record.{IsRecord, IsNoRecord}
 use Rattle.pass_record.specs.Reading.{told_segments}
 use Rattle.pass_record.specs.declared.record.PassRecord.{PassRecord}
 use Rattle.pass_record.specs.declared.segment.Segment.{Segment}
@@ -30,4 +30,9 @@ symbols_left to_come =
 -- why octets are refused, and that no segments make them a record
 pub record RefusedLayout (octets : List ℕ) (why : Refusal) : Type 0 where
   pub reason : why ≡ RecordLayout
-  pub none : (segments : List (List Bool)) → IsRecord octets segments → ⊥
+  pub none : IsNoRecord octets
+
+-- octets that are the record of segments are read, and the record has these segments
+abbrev pub GivesBack : List ℕ → Result PassRecord Refusal → Type 0
+GivesBack octets answer =
+    (segments : List (List Bool)) → IsRecord octets segments → IsOkAnd answer (λ pass. segments_in pass ≡ segments)

@@ -1,23 +1,33 @@
-//! Reading a pass record: segments of received symbols, in octets that the caller lends.
+//! Reading and writing a pass record: segments of received symbols, in octets that the caller lends.
 #![tactic(auto)]
 
 ghost use Rattle.std.specs.Prelude.{◌≡◌, ℕ, ◌+◌, ◌%◌, ◌^◌, ◌<◌, ◌≤◌, length, Decides, MatchOption, MatchResult, ◌==◌, slice_index};
 ghost use Rattle.std.specs.Option.{option_map};
 ghost use Rattle.std.specs.Iterator.{YieldsFirst, YieldsFirstBy, item_count};
 ghost use Rattle.std.specs.List.{slice_get};
-ghost use Rattle.pass_record.specs.Record.{octets_for, IsRecord, OneListOfSegments};
-ghost use Rattle.pass_record.specs.Reading.{number_at, unused, told_place, told_count, told_begin, told_size, RightEnd, RightEntry, Tells};
-ghost use Rattle.pass_record.specs.Segments.{segments_in, symbols_in, segments_left, symbols_left, RefusedLayout};
+ghost use Rattle.pass_record.specs.Record.{octets_for, IsRecord, IsNoRecord, OneListOfSegments};
+ghost use Rattle.pass_record.specs.Reading.{number_at, unused, told_place, told_count, told_begin, told_size, told_segments, RightEnd, RightEntry};
+ghost use Rattle.pass_record.specs.Faults.{IsEntryFault, IsFirstFault};
+ghost use Rattle.pass_record.specs.Segments.{segments_in, symbols_in, segments_left, symbols_left, RefusedLayout, GivesBack};
 
 use refusals::Refusal;
 use std::array;
 use std::ops::Range;
 
+mod entry_fault;
 mod record;
+mod record_fault;
 mod segment;
+mod writing;
 
+pub use entry_fault::EntryFault;
 pub use record::PassRecord;
+pub use record_fault::RecordFault;
 pub use segment::Segment;
+pub use writing::{record_length, write_record};
+
+/// How many octets a record has at most.
+const LONGEST_RECORD: usize = 65535;
 
 // What the entry of a segment tells.
 #[derive(Clone, Copy)]
@@ -69,14 +79,6 @@ fn told_entry(octets: &[u8], i: u32) -> Entry
     }
 }
 
-// Whether octets are neither too few nor too many, and the entries end where the last eight begin.
-fn ends_right(octets: &[u8]) -> bool
-    ensures { Decides result (RightEnd octets.now) }
-{
-    (8..=65535).contains(&octets.len())
-        && told_place(octets) as usize + 8 * told_count(octets) as usize + 8 == octets.len()
-}
-
 // Whether the bits of the last octet that so many symbols leave unused are zero.
 fn zero_padded(last: u8, symbols: u32) -> bool
     ensures { result ≡ (last % 2 ^ unused symbols == 0) }
@@ -86,36 +88,80 @@ fn zero_padded(last: u8, symbols: u32) -> bool
 }
 
 // Where the segment i ends, if its entry is right and tells that it begins at this place.
-fn segment_end(octets: &[u8], i: u32, begin: u32) -> Option<u32>
-    ensures { MatchOption result
-        (RightEntry octets.now i begin → ⊥)
-        (λ end. RightEntry octets.now i begin × (end ≡ begin + octets_for (told_size octets.now i))) }
+fn segment_end(octets: &[u8], i: u32, begin: usize) -> Result<usize, EntryFault>
+    requires { begin < 2 ^ 32 }
+    ensures { MatchResult result
+        (λ end. RightEntry octets.now i begin × (end ≡ begin + octets_for (told_size octets.now i)))
+        (IsEntryFault octets.now i begin) }
 {
     let entry = told_entry(octets, i);
-    let end = begin.checked_add(entry.symbols.div_ceil(8))?;
-    let is_right = entry.begin == begin
-        && entry.symbols > 0
-        && end <= told_place(octets)
-        && zero_padded(octet_at(octets, end as usize - 1), entry.symbols);
-    is_right.then_some(end)
+    let told = entry.begin as usize;
+    if told != begin {
+        return Err(EntryFault::BeginsElsewhere {
+            begin: told,
+            due: begin,
+        });
+    }
+    if entry.symbols == 0 {
+        return Err(EntryFault::NoSymbols);
+    }
+    let end = begin + entry.symbols.div_ceil(8) as usize;
+    let first_entry = told_place(octets) as usize;
+    if end > first_entry {
+        return Err(EntryFault::PastFirstEntry { end, first_entry });
+    }
+    if !zero_padded(octet_at(octets, end - 1), entry.symbols) {
+        return Err(EntryFault::PaddingNotZero { place: end - 1 });
+    }
+    Ok(end)
 }
 
-// Whether octets are laid out as a record.
-fn is_laid_out(octets: &[u8]) -> bool
-    ensures { Tells octets.now result }
+// What is wrong with how many octets there are, or with where the entries end.
+fn end_fault(octets: &[u8]) -> Option<RecordFault>
+    ensures { MatchOption result (RightEnd octets.now) (λ fault. IsFirstFault octets.now fault × ¬ RightEnd octets.now) }
 {
-    if !ends_right(octets) {
-        return false;
+    let count = octets.len();
+    if count < 8 {
+        return Some(RecordFault::TooShort { octets: count });
+    }
+    if count > LONGEST_RECORD {
+        return Some(RecordFault::TooLong { octets: count });
+    }
+    let end = told_place(octets) as usize + 8 * told_count(octets) as usize;
+    let due = count - 8;
+    if end != due {
+        return Some(RecordFault::EntriesEndElsewhere { end, due });
+    }
+    None
+}
+
+/// What is wrong with octets, the first thing in the order of reading: how many they are, where the
+/// entries end, each entry, and what is left between the segments and the entries. `None` exactly
+/// where they are a record.
+pub fn fault(octets: &[u8]) -> Option<RecordFault>
+    ensures { MatchOption result
+        (IsRecord octets.now (told_segments octets.now))
+        (λ fault. IsFirstFault octets.now fault × IsNoRecord octets.now) }
+{
+    if let Some(fault) = end_fault(octets) {
+        return Some(fault);
     }
     // A `for` with one line of invariant, where `try_fold` would need an induction.
     let mut place = 0;
     for i in 0..told_count(octets) {
-        let Some(end) = segment_end(octets, i, place) else {
-            return false;
-        };
-        place = end;
+        match segment_end(octets, i, place) {
+            Ok(end) => place = end,
+            Err(fault) => {
+                let number = i as usize + 1;
+                return Some(RecordFault::Entry { number, fault });
+            }
+        }
     }
-    place == told_place(octets)
+    let first_entry = told_place(octets) as usize;
+    if place < first_entry {
+        return Some(RecordFault::GapBeforeEntries { place, first_entry });
+    }
+    None
 }
 
 #[tactic(auto, using(crate::proofs::Within::length_segments, std::proofs::lemmas::Option::slice_get_past))]
@@ -128,11 +174,11 @@ impl<'a> PassRecord<'a> {
             (λ pass. IsRecord octets.now (segments_in pass))
             (RefusedLayout octets.now) }
         ensures one { OneListOfSegments octets.now }
+        ensures back { GivesBack octets.now result }
     {
-        if is_laid_out(octets) {
-            Ok(PassRecord { octets })
-        } else {
-            Err(Refusal::RecordLayout)
+        match fault(octets) {
+            None => Ok(PassRecord { octets }),
+            Some(_) => Err(Refusal::RecordLayout),
         }
     }
 
@@ -265,6 +311,7 @@ impl Iterator for Bits<'_> {
 #[cfg(test)]
 mod tests {
     use super::*;
+    use std::alloc::Global;
     use std::test::Fail;
 
     // One CLTU of one codeblock, 144 symbols.
@@ -323,6 +370,36 @@ mod tests {
     fn no_segment(rt: HostRuntime) -> Result<(), Fail> {
         assert!(rt; PassRecord::read(&[0; 8])?.count() == 0);
         assert!(rt; refused(&[]) && refused(&[0; 7]) && refused(&[0; 9]));
+        Ok(())
+    }
+
+    // Whether this is the text of what is wrong with two segments with another octet at a place.
+    fn tells(heap: Global, place: usize, octet: u8, text: &str) -> Result<bool, Fail> {
+        let mut octets = TWO_SEGMENTS;
+        if place < octets.len() {
+            octets[place] = octet;
+        }
+        let fault = fault(&octets).ok_or("no fault")?;
+        Ok(fault.to_string(heap)?.as_str() == text)
+    }
+
+    #[test]
+    fn faults(rt: HostRuntime) -> Result<(), Fail> {
+        let heap = rt.alloc();
+        assert!(rt; fault(&TWO_SEGMENTS) == None);
+        assert!(rt; fault(&TWO_SEGMENTS[..7]) == Some(RecordFault::TooShort { octets: 7 }));
+        let ends = "the entries end at place 20, and are due to end at place 19";
+        assert!(rt; tells(heap, 26, 4, ends)?);
+        let begins = "entry 2: its segment begins at place 2, and is due at place 1";
+        assert!(rt; tells(heap, 14, 2, begins)?);
+        assert!(rt; tells(heap, 10, 0, "entry 1: its segment has no symbols")?);
+        let past = "entry 2: its segment ends at place 4, past the first entry at place 3";
+        assert!(rt; tells(heap, 18, 17, past)?);
+        let padding =
+            "entry 1: the padding in the last octet of its segment, at place 0, is not zero";
+        assert!(rt; tells(heap, 0, 0xB0, padding)?);
+        let gap = "the octets from place 2 up to the first entry, at place 3, belong to no segment";
+        assert!(rt; tells(heap, 18, 8, gap)?);
         Ok(())
     }
 
