@@ -2,6 +2,7 @@
 pub mod Lines
 pub mod Released
 pub mod Passes
+pub mod Come
 pub mod Emptied
 pub mod Texts
 pub mod Sent

@@ -1,5 +1,5 @@
 -- What a receiver over an empty ring writes is the text. Assumes nothing.
-use Rattle.std.proofs.Common.{◌≡◌, ℕ, ◌≤◌, Bool, List, [], Some, None, min, refl, ap, ap₂, ◌∙◌, subst, sym, slice_get, arith}
+use Rattle.std.proofs.Common.{◌≡◌, ℕ, ◌≤◌, Bool, List, [], ◌∷◌, Some, None, Option, min, refl, ap, ap₂, ◌∙◌, subst, sym, slice_get, arith}
 use Rattle.std.specs.List.{AllByRecursion}
 use Rattle.hold.specs.Candidates.{Candidate, Showing}
 use Rattle.reception.specs.Rules.{State, INACTIVE, state}
@@ -11,7 +11,10 @@ use Rattle.receive_lines.specs.declared.view.View.{View}
 use Rattle.receive_lines.specs.Lines.{reports_in, whole_text}
 use Rattle.receive_lines.specs.Pass.{pass_events, placed_pass, rules_for, showing_for, over_cells, ready_for}
 use Rattle.receive_lines.specs.Released.{with_releases}
+use Rattle.receive_lines.specs.declared.form.Form.{Form}
 use Rattle.receive_lines.specs.Answers.{AreLinesOf, IsTextOf}
+use Rattle.receive_lines.specs.Forms.{symbols_in_octets}
+use Rattle.receive_lines.specs.Printing.{PrintsAll, PrintsFrom}
 use Rattle.receive_lines.specs.Releasing.{lines_of}
 use Rattle.receive_lines.proofs.Released.{told_reports, first_at}
 use Rattle.receive_lines.proofs.Passes.{events_placed}
@@ -54,3 +57,20 @@ module _ (setup : Setup) where
 -- a ring of these cells, empty, under a receiver
 pub over_ring : (k n cells : ℕ) (finished : List Candidate) → k ≡ min n 65535 → n ≡ cells → cells ≤ 65535 → finished ≡ [] → state INACTIVE (held k finished None) ≡ over_cells cells
 over_ring k n cells finished capacity long few none = ap₂ (λ c f. state INACTIVE (held c f None)) (omega (arith, capacity, long, few)) none
+
+-- and what is printed of it is all
+pub prints_all : (setup : Setup) (view : View) (form : Form) (input input_after output output_after : Option (List ℕ)) (showing : Showing) (s : State) →
+    showing ≡ showing_for setup.randomizer → s ≡ over_cells setup.cells → PrintsFrom view form input input_after output output_after (rules_for setup) showing s →
+    PrintsAll view form input input_after output output_after setup
+prints_all setup view form input input_after output output_after showing s shows same prints =
+    let segments = symbols_in_octets form prints.octets ∷ [] in
+    let text = whole_text view (lines_of (rules_for setup) showing s (placed_pass segments)) in
+    record {
+      octets = prints.octets;
+      given = prints.given;
+      all = prints.all;
+      form_kept = prints.form_kept;
+      text = text;
+      is_text = is_text_of setup view segments text showing s shows same refl;
+      printed = prints.printed;
+    }

@@ -4,4 +4,6 @@ pub mod Pass
 pub mod Released
 pub mod Sent
 pub mod Answers
+pub mod Forms
+pub mod Printing
 pub mod Releasing

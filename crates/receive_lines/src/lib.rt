@@ -1,29 +1,31 @@
 //! A pass as lines of text: what a receiver reports of it, and the candidates that it finishes.
 #![tactic(auto)]
 
-ghost use Rattle.std.specs.Prelude.{◌≡◌, ◌≤◌, IfOk, string_bytes, vec_len};
+ghost use Rattle.std.specs.Prelude.{◌≡◌, ◌≤◌, IfOk, OnOk, string_bytes, vec_len};
 ghost use Rattle.reception.specs.Rules.{made};
 ghost use Rattle.pass_record.specs.Segments.{segments_in};
 ghost use Rattle.decoding.specs.Meaning.{rules_of, held_in};
 ghost use Rattle.receive_lines.specs.Lines.{whole_text};
 ghost use Rattle.receive_lines.specs.Pass.{placed_pass};
 ghost use Rattle.receive_lines.specs.Answers.{IsTextOf, OneText, Answers};
+ghost use Rattle.receive_lines.specs.Printing.{PrintsAll, PrintsFrom};
 ghost use Rattle.receive_lines.specs.Releasing.{lines_of};
 
+use anyhow::anyhow;
 use decoding::Settings;
 use derandomizing::Derandomizing;
 use hold::Hold;
-use pass_log::PassLog;
 use pass_record::PassRecord;
-use queue::Queue;
 use randomizer::Randomizer;
 use receiver::Receiver;
 use receiving::Receiving;
 use reception::Report;
 use ring::{Cell, Ring};
 use std::alloc::{AllocError, Global};
+use std::io::{ErrorKind, Read, Write};
 
 mod error;
+mod form;
 mod pass_log;
 mod place;
 mod receiving;
@@ -31,9 +33,13 @@ mod setup;
 mod view;
 
 pub use error::ReceivingError;
+pub use form::Form;
 pub use place::Place;
 pub use setup::Setup;
 pub use view::View;
+
+// How many octets are read at once, at most.
+const PIECE: usize = 8192;
 
 // What a receiver over a hold writes of a record.
 fn text_over<H: Hold + Drop>(
@@ -48,18 +54,10 @@ fn text_over<H: Hold + Drop>(
         IfOk result (λ s. string_bytes s ≡ whole_text view lines) }
 {
     let mut slots = [Report::UNUSED];
-    let mut receiving = Receiving {
-        receiver: Receiver::new(settings, hold),
-        queue: Queue::new(&mut slots),
-        place: Place {
-            segment: 0,
-            symbol: 0,
-        },
-        log: PassLog::new(heap, view),
-    };
+    let receiver = Receiver::new(settings, hold);
+    let mut receiving = Receiving::new(heap, receiver, &mut slots, view);
     receiving.take_pass(pass)?;
-    let Receiving { log, .. } = receiving;
-    Ok(log.into_text()?)
+    Ok(receiving.into_text()?)
 }
 
 // Cells for so many codeblocks.
@@ -105,5 +103,69 @@ pub fn answer_record(
     match PassRecord::read(octets) {
         Ok(pass) => pass_text(heap, setup, view, pass),
         Err(refusal) => Ok(format!(in heap; "{refusal}\n")?),
+    }
+}
+
+// Reads the octets of one segment to the end of the input, and prints what a receiver over a hold writes of it.
+fn print_over<H: Hold + Drop, R: Read, W: Write>(
+    heap: Global,
+    settings: Settings,
+    hold: H,
+    view: View,
+    form: Form,
+    input: &mut R,
+    output: &mut W,
+) -> anyhow::Result<()>
+    ensures { OnOk result (PrintsFrom view form (R.remaining input.old) (R.remaining input.new)
+        (W.contents output.old) (W.contents output.new)
+        (rules_of settings) H.Hold.showing (made (held_in H.Hold hold))) }
+{
+    let mut slots = [Report::UNUSED];
+    let receiver = Receiver::new(settings, hold);
+    let mut receiving = Receiving::new(heap, receiver, &mut slots, view);
+    receiving.begin_segment()?;
+    let mut piece = vec![in heap; 0u8; PIECE]?;
+    for _ in 0..u64::MAX {
+        let count = match input.read(piece.as_mut_slice()) {
+            Ok(count) => count,
+            Err(e) if e.kind() == ErrorKind::Interrupted => continue,
+            Err(e) => return Err(e.into()),
+        };
+        if count == 0 {
+            receiving.end_segment()?;
+            let text = receiving.into_text()?;
+            output.write_all(text.as_bytes())?;
+            return Ok(());
+        }
+        receiving.take_octets(form, &piece[..count])?;
+        output.write_all(receiving.log.text.as_bytes())?;
+        receiving.clear_text();
+    }
+    Err(anyhow!("the input has no end"))
+}
+
+/// Reads the octets of one segment to the end of the input, in constant memory, and prints its lines: those of a
+/// pass record that has this segment alone. The symbols stand in the octets in this form. However the octets
+/// come, what is printed is the text for all of them.
+pub fn print_symbols<R: Read, W: Write>(
+    heap: Global,
+    setup: Setup,
+    view: View,
+    form: Form,
+    input: &mut R,
+    output: &mut W,
+) -> anyhow::Result<()>
+    ensures { OnOk result (PrintsAll view form (R.remaining input.old) (R.remaining input.new)
+        (W.contents output.old) (W.contents output.new) setup) }
+{
+    let mut cells = new_cells(heap, setup.cells)?;
+    let ring = Ring::new(cells.as_mut_slice());
+    let settings = setup.settings;
+    match setup.randomizer {
+        Randomizer::On => {
+            let layer = Derandomizing::over(ring);
+            print_over(heap, settings, layer, view, form, input, output)
+        }
+        Randomizer::Off => print_over(heap, settings, ring, view, form, input, output),
     }
 }
