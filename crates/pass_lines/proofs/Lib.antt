@@ -4,3 +4,8 @@ mod FirstLine
 mod Reading
 mod Receiving
 mod Sending
+mod Twice
+mod Segments
+mod CutApart
+mod Packing
+mod Passing

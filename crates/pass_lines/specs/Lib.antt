@@ -3,3 +3,6 @@ pub mod Given
 pub mod Cltus
 pub mod Symbols
 pub mod Received
+pub mod Places
+pub mod Forms
+pub mod Making

@@ -1,5 +1,5 @@
 -- The symbols of CLTUs with idle in front, in segments, and what errors make of them. Assumes nothing.
-use Rattle.std.specs.Prelude.{ℕ, ◌+◌, Bool, true, false, not, cond, ◌==◌, List, [], ◌∷◌, ◌++◌, length, map}
+use Rattle.std.specs.Prelude.{ℕ, ◌+◌, ◌*◌, Bool, true, false, not, cond, ◌==◌, List, [], ◌∷◌, ◌++◌, length, map, take, drop}
 use Rattle.std.specs.List.{flat_map, list_any}
 use Rattle.bch.specs.Bits.{bits_of}
 use Rattle.reception.specs.Runs.{idle}
@@ -29,3 +29,15 @@ segments_received wrong place (segment ∷ segments) =
 -- the symbols of all segments, one behind the other
 abbrev pub all_symbols : List (List Bool) → List Bool
 all_symbols segments = flat_map (λ segment. segment) segments
+
+-- the segments of these symbols, one behind the other: a guard and the bits of the CLTU in each
+abbrev pub parts : (guard : ℕ) (cltus : List (List ℕ)) → List Bool → List (List Bool)
+parts guard [] symbols = []
+parts guard (cltu ∷ cltus) symbols =
+    let here = guard + 8 * length cltu in
+    take here symbols ∷ parts guard cltus (drop here symbols)
+
+-- how many symbols they have together
+abbrev pub parts_length : (guard : ℕ) (cltus : List (List ℕ)) → ℕ
+parts_length guard [] = 0
+parts_length guard (cltu ∷ cltus) = guard + 8 * length cltu + parts_length guard cltus
