@@ -16,10 +16,8 @@ pub use arguments::{
 };
 pub use asked::{Asked, Form};
 pub use bit_rate::BitRate;
-pub use csv::csv_text;
 pub use guard_time::GuardTime;
 pub use row::Row;
-pub use table::table_text;
 
 #[cfg(test)]
 mod tests {
