@@ -5,7 +5,8 @@ use bch::{Accepted, Mode};
 use chain::{Chain, LinkedCell};
 use cltu::{CodeblockLimit, LONGEST_CLTU, Sender};
 use coding::{codeblock, judge};
-use command_line::{Program, Task, arguments};
+use clap::{Arg, ArgMatches, Command};
+use command_line::{Failure, program, run, words};
 use decoding::Settings;
 use hold::{Hold, copy_oldest};
 use queue::Queue;
@@ -14,6 +15,7 @@ use receiver::Receiver;
 use reception::Report;
 use ring::{Cell, Ring};
 use searching::Symbol;
+use std::alloc::{AllocError, Global};
 use std::process::ExitCode;
 use std::rt::Clock;
 use std::time::Instant;
@@ -802,18 +804,26 @@ fn time(rt: &(impl Print + Clock)) -> anyhow::Result<()> {
     time_symbols(rt)
 }
 
-/// The program as its user calls it.
-const PROGRAM: Program = Program {
-    name: "benchmarks",
-    arguments: "time",
-    help: HELP,
-};
+const NAME: &str = "benchmarks";
 
-/// What the argument asks for.
-fn asked_task(argument: &str) -> Option<Task<()>> {
-    (argument == "time").then_some(Task::Work(()))
+fn command<'a>(heap: Global) -> Result<Command<'a>, AllocError> {
+    program(heap, NAME)
+        .override_help(HELP)
+        .arg(Arg::new(heap, "time").value_parser(["time"].as_slice()))
 }
 
-fn main(rt: HostRuntime) -> anyhow::Result<ExitCode> {
-    PROGRAM.run(&rt, arguments(&rt), Task::Help, asked_task, |()| time(&rt))
+fn work<R>(rt: &R, matches: &ArgMatches<'_>) -> Result<(), Failure>
+where
+    R: Print + Clock + AllocGlobal,
+{
+    match matches.get_str("time") {
+        Some(_) => time(rt)?,
+        None => rt.println(HELP)?,
+    }
+    Ok(())
+}
+
+fn main(rt: HostRuntime) -> ExitCode {
+    let words = words(&rt);
+    run(&rt, NAME, command(rt.alloc()), &words, |matches| work(&rt, matches))
 }

@@ -13,7 +13,11 @@ that the receiver takes in a CLTU. Octets are rounded up.
 ";
 
 /// The rows as a table with a heading, and below it what they tell.
-pub(crate) fn table_text(heap: Global, rows: &[Row], rate: Option<BitRate>) -> Result<String, AllocError>
+pub(crate) fn table_text(
+    heap: Global,
+    rows: &[Row],
+    rate: Option<BitRate>,
+) -> Result<String, AllocError>
     ensures { IfOk result (λ s. string_bytes s ≡ table_text rate rows.now) }
 {
     let mut text = String::from_str(heap, heading(rate))?;
