@@ -3,20 +3,17 @@
 
 use clap::{ArgMatches, Command};
 use command_line::{Failure, program, run, words};
-use guard_times::{Asked, csv_option, limits_option, rate_option};
-use receiver_options::mode_option;
+use guard_times::{Asked, with_guard_options};
 use std::alloc::{AllocError, Global};
 use std::process::ExitCode;
 
 const NAME: &str = "guard";
 
 fn command<'a>(heap: Global) -> Result<Command<'a>, AllocError> {
-    program(heap, NAME)
-        .about("Prints guard times: the idle that has to lie between two commands")
-        .arg(limits_option(heap))?
-        .arg(mode_option(heap))?
-        .arg(rate_option(heap))?
-        .arg(csv_option(heap))
+    let command = program(heap, NAME).about(
+        "Prints guard times: the idle that has to lie between two commands",
+    );
+    with_guard_options(heap, command)
 }
 
 fn work<R: Print + AllocGlobal>(rt: &R, matches: &ArgMatches<'_>) -> Result<(), Failure> {

@@ -5,4 +5,5 @@ pub mod Rows
 pub mod Csv
 pub mod Table
 pub mod Answers
+pub mod Options
 pub mod Arguments

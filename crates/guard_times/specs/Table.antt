@@ -36,10 +36,10 @@ table_line row = columns row ++ (milliseconds_column row.milliseconds ++ codes "
 -- what the rows tell
 abbrev pub what_it_is : List ℕ
 what_it_is =
-    codes "\nGuard time between two commands: the idle that has to lie between them, the carrier up throughout,\n"
-    ++ (codes "so that a receiver of that mode and limit is back in SEARCH before the second begins, whatever\n"
-    ++ (codes "became of the first and whichever bit the idle begins with. The limit is the greatest count of\n"
-    ++ codes "codeblocks that the receiver takes in a CLTU. Octets are rounded up.\n"))
+    codes "\nGuard time between two commands: the idle that has to lie between them, undamaged and with the carrier up\n"
+    ++ (codes "throughout, so that a receiver of that mode and limit is back in SEARCH before the second begins, whatever\n"
+    ++ (codes "became of the first and whichever bit the idle begins with. The limit is the greatest count of codeblocks\n"
+    ++ codes "that the receiver takes in a CLTU. Octets are rounded up.\n"))
 
 abbrev pub what_milliseconds_are : Option BitRate → List ℕ
 what_milliseconds_are None = []

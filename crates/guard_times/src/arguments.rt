@@ -1,22 +1,30 @@
 //! The arguments that ask for guard times.
 
-ghost use Rattle.std.specs.Prelude.{◌≡◌, IfOk, IfErr, map, List, Option};
+ghost use Rattle.std.specs.Prelude.{◌≡◌, IfOk, IfErr, map, List, Option, Some, codes, false};
+ghost use Rattle.clap.specs.Words.{rule_of, app_of};
 ghost use Rattle.command_line.specs.Status.{failure_status};
 ghost use Rattle.cltu.specs.declared.limit.CodeblockLimit.{CodeblockLimit as Limit};
 ghost use Rattle.guard_times.specs.Arguments.{WritesLimit, WriteLimits, AsksLimits, WritesRate, AsksRate, form_asked};
+ghost use Rattle.receiver_options.specs.Options.{option, flag};
+ghost use Rattle.guard_times.specs.Options.{limits_rule, with_guard_options as with_options};
 ghost use Rattle.guard_times.specs.declared.bit_rate.BitRate.{BitRate as Rate};
 
 use crate::{BitRate, Form};
-use clap::{Arg, ArgAction, ArgMatches};
+use clap::{Arg, ArgAction, ArgMatches, Command};
 use cltu::CodeblockLimit;
 use command_line::{Failure, number_within};
-use std::alloc::Global;
+use receiver_options::mode_option;
+use std::alloc::{AllocError, Global};
 
 // The limits where none are asked for.
 const UNASKED: [&str; 4] = ["1", "10", "37", "147"];
 
 /// The option `--limit`, whose value is one limit, or several with commas between them.
-pub fn limits_option<'a>(heap: Global) -> Arg<'a> {
+pub fn limits_option<'a>(heap: Global) -> Arg<'a>
+    ensures rule { rule_of result ≡ limits_rule }
+    ensures delimiter { result.val_delim ≡ Some 44 }
+    ensures local { result.global ≡ false }
+{
     Arg::new(heap, "limit")
         .long("limit")
         .value_name("L,..")
@@ -63,7 +71,10 @@ pub fn asked_limits(heap: Global, matches: &ArgMatches<'_>) -> Result<Vec<Codebl
 }
 
 /// The option `--rate`.
-pub fn rate_option<'a>(heap: Global) -> Arg<'a> {
+pub fn rate_option<'a>(heap: Global) -> Arg<'a>
+    ensures rule { rule_of result ≡ option (codes "rate") }
+    ensures local { result.global ≡ false }
+{
     Arg::new(heap, "rate")
         .long("rate")
         .value_name("BITS_PER_SECOND")
@@ -96,7 +107,10 @@ pub fn asked_rate(heap: Global, matches: &ArgMatches<'_>) -> Result<Option<BitRa
 }
 
 /// The option `--csv`, which takes no value.
-pub fn csv_option<'a>(heap: Global) -> Arg<'a> {
+pub fn csv_option<'a>(heap: Global) -> Arg<'a>
+    ensures rule { rule_of result ≡ flag (codes "csv") }
+    ensures local { result.global ≡ false }
+{
     Arg::new(heap, "csv")
         .long("csv")
         .action(ArgAction::SetTrue)
@@ -111,4 +125,15 @@ pub fn asked_form(matches: &ArgMatches<'_>) -> Form
         Some("true") => Form::Csv,
         _ => Form::Table,
     }
+}
+
+/// Gives a command the options `--limit`, `--mode`, `--rate` and `--csv`.
+pub fn with_guard_options(heap: Global, command: Command<'_>) -> Result<Command<'_>, AllocError>
+    ensures { IfOk result (λ changed. app_of changed ≡ with_options (app_of command.entry)) }
+{
+    command
+        .arg(limits_option(heap))?
+        .arg(mode_option(heap))?
+        .arg(rate_option(heap))?
+        .arg(csv_option(heap))
 }

@@ -1,5 +1,7 @@
 use crate::arguments::{asked_form, asked_limits, asked_rate};
-use crate::{BitRate, GuardTime, Row, csv_text, table_text};
+use crate::csv::csv_text;
+use crate::table::table_text;
+use crate::{BitRate, GuardTime, Row};
 use bch::Mode;
 use clap::ArgMatches;
 use cltu::CodeblockLimit;

@@ -6,7 +6,7 @@ use crate::mode_name::mode_name;
 use std::alloc::{AllocError, Global};
 
 /// The rows as values parted by commas: a heading, and a line for each row.
-pub fn csv_text(heap: Global, rows: &[Row]) -> Result<String, AllocError>
+pub(crate) fn csv_text(heap: Global, rows: &[Row]) -> Result<String, AllocError>
     ensures { IfOk result (λ s. string_bytes s ≡ csv_text rows.now) }
 {
     let mut text = String::from_str(heap, "limit,mode,bits,octets,milliseconds\n")?;

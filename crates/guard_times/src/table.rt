@@ -6,14 +6,18 @@ use crate::{BitRate, Row};
 use std::alloc::{AllocError, Global};
 
 const WHAT_IT_IS: &str = "
-Guard time between two commands: the idle that has to lie between them, the carrier up throughout,
-so that a receiver of that mode and limit is back in SEARCH before the second begins, whatever
-became of the first and whichever bit the idle begins with. The limit is the greatest count of
-codeblocks that the receiver takes in a CLTU. Octets are rounded up.
+Guard time between two commands: the idle that has to lie between them, undamaged and with the carrier up
+throughout, so that a receiver of that mode and limit is back in SEARCH before the second begins, whatever
+became of the first and whichever bit the idle begins with. The limit is the greatest count of codeblocks
+that the receiver takes in a CLTU. Octets are rounded up.
 ";
 
 /// The rows as a table with a heading, and below it what they tell.
-pub fn table_text(heap: Global, rows: &[Row], rate: Option<BitRate>) -> Result<String, AllocError>
+pub(crate) fn table_text(
+    heap: Global,
+    rows: &[Row],
+    rate: Option<BitRate>,
+) -> Result<String, AllocError>
     ensures { IfOk result (λ s. string_bytes s ≡ table_text rate rows.now) }
 {
     let mut text = String::from_str(heap, heading(rate))?;

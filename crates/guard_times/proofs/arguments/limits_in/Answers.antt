@@ -1,5 +1,5 @@
 -- A limit more, or a text that writes none. Assumes nothing.
-use Rattle.std.proofs.Common.{ℕ, List, [], ◌++◌, ◌∷◌, map, take, ◌+◌, subst, sym, Bor}
+use Rattle.std.proofs.Common.{ℕ, List, [], map, take, ◌+◌, subst, sym, Bor}
 use Rattle.std.proofs.lemmas.Result.{err_from_is_err_and}
 use Rattle.cltu.specs.declared.limit.CodeblockLimit.{CodeblockLimit}
 use Rattle.guard_times.specs.Arguments.{WritesLimit, WriteLimits}
