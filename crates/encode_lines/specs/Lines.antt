@@ -6,7 +6,7 @@ use Rattle.refusals.specs.Numbers.{refusal_text}
 use Rattle.cltu.specs.declared.Sender.{Sender}
 use Rattle.cltu.specs.Cltu.{longest_frame, codeblocks_for, fill_for}
 use Rattle.cltu.specs.Writing.{sent_cltu, length_answer}
-use Rattle.hexadecimal.specs.Text.{capital_digits}
+use Rattle.hex.specs.Hex.{encode_upper as capital_digits}
 use Rattle.answered_lines.specs.Meaning.{Meaning}
 use Rattle.encode_lines.specs.declared.FrameAnswer.{FrameAnswer}
 use Rattle.encode_lines.specs.declared.FrameAnswer.TheVariants.{Cltu, Refused}

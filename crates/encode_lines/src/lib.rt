@@ -9,7 +9,6 @@ ghost use Rattle.encode_lines.specs.TooLong.{further_octets};
 use answered_lines::{Answer, Answering, print_answers};
 use bch::INFORMATION_OCTETS;
 use cltu::{LONGEST_CLTU, LONGEST_FRAME, Sender, codeblocks_for};
-use hexadecimal::capitals;
 use refusals::Refusal;
 use std::alloc::{AllocError, Global};
 use std::fmt;
@@ -76,7 +75,7 @@ pub fn frame_answer(heap: Global, sender: Sender, frame: &[u8]) -> Result<FrameA
                 codeblocks,
                 fill: INFORMATION_OCTETS * codeblocks - frame.len(),
                 octets,
-                digits: capitals(heap, &memory[..octets])?,
+                digits: hex::encode_upper(heap, &memory[..octets])?,
             })
         }
         Err(refusal) => Ok(FrameAnswer::Refused(refusal)),

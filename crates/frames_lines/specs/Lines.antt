@@ -3,7 +3,7 @@ use Rattle.std.specs.Prelude.{ℕ, ◌+◌, refl, List, [], ◌∷◌, ◌++◌,
 use Rattle.refusals.specs.declared.Refusal.{Refusal}
 use Rattle.refusals.specs.declared.Refusal.TheVariants.{NeitherFrameNorFill}
 use Rattle.refusals.specs.Numbers.{refusal_text}
-use Rattle.hexadecimal.specs.Text.{capital_digits}
+use Rattle.hex.specs.Hex.{encode_upper as capital_digits}
 use Rattle.answered_lines.specs.Meaning.{Meaning, FurtherOctetsChangeNothing}
 use Rattle.cutting.specs.Cutting.{Kind, frame, fill, Part, Cutting, cutting}
 

@@ -11,7 +11,6 @@ ghost use Rattle.frames_lines.specs.Answers.{Writes};
 
 use answered_lines::{Answer, Answering, print_answers};
 use cutting::{Cutter, Item};
-use hexadecimal::capitals;
 use refusals::Refusal;
 use std::alloc::{AllocError, Global};
 use std::io::{Read, Write};
@@ -80,7 +79,7 @@ fn write_item(heap: Global, item: Item<'_>, answer: &mut Answer) -> Result<(), A
     match item {
         Item::Frame { place, octets } => {
             let count = octets.len();
-            let digits = capitals(heap, octets)?;
+            let digits = hex::encode_upper(heap, octets)?;
             writeln!(answer.text, "frame {place} {count} {digits}")?;
             answer.counted += 1;
         }

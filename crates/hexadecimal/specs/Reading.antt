@@ -1,6 +1,6 @@
 -- What a reader of digits has read. Assumes nothing.
-use Rattle.std.specs.Prelude.{◌≡◌, ℕ, List, [], ◌∷◌, ◌++◌, Option, Some, None, IsSome}
-use Rattle.hexadecimal.specs.Text.{digit_value, octets_written}
+use Rattle.std.specs.Prelude.{◌≡◌, ℕ, List, [], ◌∷◌, ◌++◌, Option, Some, None}
+use Rattle.hexadecimal.specs.Text.{octets_written}
 use Rattle.hexadecimal.specs.Kept.{kept}
 use Rattle.hexadecimal.specs.declared.digit_reader.Progress.{Progress}
 use Rattle.hexadecimal.specs.declared.digit_reader.Progress.TheVariants.{Whole, Half, Unreadable}
@@ -18,11 +18,10 @@ pub record NothingMends (most : Option ℕ) (octets text : List ℕ) : Type 0 wh
   pub is : text ≡ front ++ behind
   pub keeps : Writes most octets front
 
--- the text is whole octets; or such a text with a digit behind it; or nothing mends it
+-- the text is whole octets; or such a text with a byte behind it; or nothing mends it
 abbrev pub Reads : Progress → Option ℕ → List ℕ → List ℕ → Type 0
 Reads Whole most octets text = Writes most octets text
-Reads (Half digit) most octets text =
-    (front : List ℕ) × (text ≡ front ++ digit ∷ []) × IsSome (digit_value digit) × Writes most octets front
+Reads (Half byte) most octets text = (front : List ℕ) × (text ≡ front ++ byte ∷ []) × Writes most octets front
 Reads Unreadable most octets text = NothingMends most octets text
 
 -- this reader has read this text since it was made or cleared

@@ -2,11 +2,13 @@
 
 ghost use Rattle.std.specs.Prelude.{◌≡◌, List, ℕ, [], ◌∷◌, ◌++◌, OnOk};
 ghost use Rattle.std.specs.Option.{option_map, option_copied};
-ghost use Rattle.hexadecimal.specs.Text.{octets_written};
+ghost use Rattle.std.specs.Result.{result_ok};
+ghost use Rattle.hex.specs.Hex.{pair_value};
+ghost use Rattle.hexadecimal.specs.Text.{octets_written, DigitsReadBack};
 ghost use Rattle.hexadecimal.specs.Kept.{kept};
 ghost use Rattle.hexadecimal.specs.Reading.{HasRead, most_kept};
 
-use crate::{digit_value, octet_value};
+use hex::FromHex;
 use std::alloc::{AllocError, Global};
 
 /// What the text is so far.
@@ -14,15 +16,15 @@ use std::alloc::{AllocError, Global};
 enum Progress {
     /// Whole octets.
     Whole,
-    /// Whole octets, and this digit behind them.
+    /// Whole octets, and this byte behind them.
     Half(u8),
     /// No text that begins so is whole octets.
     Unreadable,
 }
 
-/// Reads a text of hexadecimal digits, two an octet, in either case, as it comes. Of the octets it keeps the
-/// first ones, as many as it was made for, or all of them; of the digits only one, and nothing of what stands
-/// behind a byte that is no digit.
+/// Reads a text of hexadecimal digits, two an octet, the high digit first, in either case, as it comes. Of the
+/// octets it keeps the first ones, as many as it was made for, or all of them; of the text only one byte, and
+/// nothing of what stands behind two bytes that are no octet.
 #[derive(Debug, Drop)]
 pub struct DigitReader {
     octets: Vec<u8>,
@@ -31,10 +33,13 @@ pub struct DigitReader {
 }
 
 impl DigitReader {
-    /// A reader that has read nothing, and will keep so many octets, or all.
+    /// A reader that has read nothing, and will keep so many octets, or all. What it gives for a text are the
+    /// octets that the text writes: those whose digits the text is, in capitals or small letters.
+    #[tactic(auto, using(crate::proofs::DigitByDigit::nothing_read, crate::proofs::ReadBack::digits_read_back))]
     pub fn new(heap: Global, most: Option<usize>) -> Self
         ensures text { HasRead result [] }
         ensures most { most_kept result ≡ most }
+        ensures read_back { DigitsReadBack }
     {
         DigitReader {
             octets: Vec::new(heap),
@@ -50,12 +55,7 @@ impl DigitReader {
         ensures most { most_kept self.new ≡ most_kept self.old }
     {
         match self.progress {
-            Progress::Whole => {
-                self.progress = match digit_value(byte) {
-                    Some(_) => Progress::Half(byte),
-                    None => Progress::Unreadable,
-                };
-            }
+            Progress::Whole => self.progress = Progress::Half(byte),
             Progress::Half(high) => match octet_value(high, byte) {
                 Some(octet) => {
                     self.keep(octet)?;
@@ -80,6 +80,7 @@ impl DigitReader {
     }
 
     /// Forgets what was read, for another text.
+    #[tactic(auto, using(crate::proofs::DigitByDigit::nothing_read))]
     pub fn clear(&mut self)
         ensures text { HasRead self.new [] }
         ensures most { most_kept self.new ≡ most_kept self.old }
@@ -104,4 +105,12 @@ impl DigitReader {
         }
         Ok(())
     }
+}
+
+// The octet of two digits, or `None` where either byte is not a hexadecimal digit.
+fn octet_value(high: u8, low: u8) -> Option<u8>
+    ensures { result ≡ result_ok (pair_value high low 0) }
+{
+    let [octet] = <[u8; 1]>::from_hex([high, low]).ok()?;
+    Some(octet)
 }

@@ -3,7 +3,7 @@
 
 use bch::{Accepted, INFORMATION_OCTETS, Mode};
 use coding::{codeblock, judge, syndrome, wrong_place};
-use hexadecimal::{capitals, read_octets};
+use hex::FromHex;
 use std::alloc::{AllocError, Global};
 
 /// What a line asks of the code.
@@ -17,29 +17,19 @@ enum Question {
 
 impl Question {
     // `None` where the line cannot be read.
-    fn read(heap: Global, line: &str) -> Result<Option<Question>, AllocError> {
-        let Some((kind, digits)) = line.split_once(' ') else {
-            return Ok(None);
-        };
-        let Some(octets) = read_octets(heap, digits.as_bytes())? else {
-            return Ok(None);
-        };
-        let octets = octets.as_slice();
-        Ok(match kind {
-            "code" => octets
-                .as_array()
-                .map(|information| Question::Code(*information)),
-            "word" => octets
-                .as_array()
-                .map(|word| Question::Word(u64::from_be_bytes(*word))),
+    fn read(line: &str) -> Option<Question> {
+        let (kind, digits) = line.split_once(' ')?;
+        match kind {
+            "code" => Some(Question::Code(FromHex::from_hex(digits).ok()?)),
+            "word" => Some(Question::Word(u64::from_be_bytes(FromHex::from_hex(digits).ok()?))),
             _ => None,
-        })
+        }
     }
 
     fn answer(self, heap: Global) -> Result<String, AllocError> {
         match self {
             Question::Code(information) => {
-                let digits = capitals(heap, &codeblock(information))?;
+                let digits = hex::encode_upper(heap, codeblock(information))?;
                 format!(in heap; "codeblock {digits}")
             }
             Question::Word(word) => word_answer(heap, word),
@@ -68,7 +58,7 @@ fn verdict_text(heap: Global, verdict: Option<Accepted>) -> Result<String, Alloc
     let Some(accepted) = verdict else {
         return String::from_str(heap, "rejected");
     };
-    let mut text = capitals(heap, &accepted.information)?;
+    let mut text = hex::encode_upper(heap, accepted.information)?;
     if accepted.corrected {
         text.push_str(" corrected")?;
     }
@@ -76,7 +66,7 @@ fn verdict_text(heap: Global, verdict: Option<Accepted>) -> Result<String, Alloc
 }
 
 fn answer(heap: Global, line: &str) -> Result<String, AllocError> {
-    match Question::read(heap, line)? {
+    match Question::read(line) {
         Some(question) => question.answer(heap),
         None => String::from_str(heap, "unreadable"),
     }
