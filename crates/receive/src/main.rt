@@ -1,69 +1,54 @@
-//! `receive`: a pass record in, reports and candidates out, one line each.
+//! `receive`: a pass record or the symbols of one segment in, reports and candidates out, one line each.
 #![tactic(auto)]
 
-use command_line::{Program, Task, arguments};
-use receive_lines::answer_record;
-use std::io::Read;
+use command_line::{Failure, opened, run, words};
+use pass_record::fault;
+use receive_arguments::{NAME, ReceiveArguments, command};
+use receive_lines::{answer_record, print_symbols};
+use std::fs::Files;
+use std::io::{self, Read, Write};
 use std::process::ExitCode;
-
-const HELP: &str = "\
-receive: runs a receiver over a pass record
-
-usage: receive < record > log
-
-Standard input is a pass record: segments of symbols as a radio received them, packed eight to an
-octet, then an entry for each segment, then how many entries there are and where they begin. The
-carrier goes up before each segment and down after it. The receiver corrects wrong bits, takes CLTUs
-of at most 37 codeblocks and has a hold of 37 codeblocks. For each candidate that ends it writes
-
-  REASON CODEBLOCKS CORRECTIONS   closed, empty, long, full or down; how many codeblocks were added
-                                  to the candidate, and how many of them were corrected
-
-and behind closed, before the next symbol,
-
-  frame OCTETS DIGITS             the candidate, fill included: how many octets it has, and these
-                                  in capital hexadecimal digits
-
-After the last segment comes
-
-  end REPORTS FRAMES              how many reports and frames were written
-
-Where the input is no pass record, the only line is
-
-  refused 16
-
---help prints this text.";
 
 // One octet more than a pass record may have: input that fills it is too long.
 const MOST: u64 = 65536;
 
-/// The program as its user calls it.
-const PROGRAM: Program = Program {
-    name: "receive",
-    arguments: "--help",
-    help: HELP,
-};
-
-/// What the argument asks for.
-fn asked_task(argument: &str) -> Option<Task<()>> {
-    (argument == "--help").then_some(Task::Help)
-}
-
-fn receive(rt: &(impl Print + AllocGlobal), input: impl Read + Drop) -> anyhow::Result<()> {
+/// Prints what a receiver makes of the input.
+fn receive<R, I>(rt: &R, asked: ReceiveArguments<'_>, input: &mut I) -> anyhow::Result<()>
+where
+    R: Print + Eprint + AllocGlobal,
+    I: Read,
+{
     let heap = rt.alloc();
+    let mut output = io::writer(rt);
+    if let Some(form) = asked.form {
+        return print_symbols(heap, asked.setup, asked.view, form, input, &mut output);
+    }
     let mut octets = Vec::new(heap);
     input.take(MOST).read_to_end(&mut octets)?;
-    let text = answer_record(heap, octets.as_slice())?;
-    rt.print(text.as_str())?;
+    if asked.why {
+        if let Some(fault) = fault(octets.as_slice()) {
+            eprintln!(rt; "{NAME}: {fault}")?;
+        }
+    }
+    let text = answer_record(heap, asked.setup, asked.view, octets.as_slice())?;
+    output.write_all(text.as_bytes())?;
     Ok(())
 }
 
-fn main(rt: HostRuntime) -> anyhow::Result<ExitCode> {
-    PROGRAM.run(
-        &rt,
-        arguments(&rt),
-        Task::Work(()),
-        asked_task,
-        |()| receive(&rt, rt.stdin()),
-    )
+fn work<R>(rt: &R, asked: ReceiveArguments<'_>) -> Result<(), Failure>
+where
+    R: Print + Eprint + Input + Files + AllocGlobal,
+{
+    match asked.file {
+        Some(name) => receive(rt, asked, &mut opened(rt, name)?)?,
+        None => receive(rt, asked, &mut rt.reader())?,
+    }
+    Ok(())
+}
+
+fn main(rt: HostRuntime) -> ExitCode {
+    let words = words(&rt);
+    run(&rt, NAME, command(rt.alloc()), &words, |matches| {
+        work(&rt, ReceiveArguments::asked(rt.alloc(), matches)?)
+    })
 }

@@ -1,7 +1,7 @@
 -- The lines that are written of a pass, each with its end. Assumes nothing.
 use Rattle.std.specs.Prelude.{◌≡◌, ℕ, Bool, true, false, List, [], ◌∷◌, ◌++◌, map, length, codes, decimal}
 use Rattle.std.specs.List.{flat_map}
-use Rattle.hexadecimal.specs.Text.{capital_digits}
+use Rattle.hex.specs.Hex.{encode_upper as capital_digits}
 use Rattle.hold.specs.Candidates.{Candidate}
 use Rattle.reception.specs.declared.Reason.{Reason}
 use Rattle.reception.specs.declared.Reason.TheVariants.{Closed, Empty, Long, Full, Down}

@@ -169,3 +169,90 @@ pub fn print_symbols<R: Read, W: Write>(
         Randomizer::Off => print_over(heap, settings, ring, view, form, input, output),
     }
 }
+
+#[cfg(test)]
+mod tests {
+    use super::*;
+    use bch::Mode;
+    use std::test::Fail;
+
+    // A CLTU of one codeblock, and one of two.
+    const ONE: [u8; 18] = *b"\xEB\x90\0\0\0\0\0\0\x01\x74\xC5\xC5\xC5\xC5\xC5\xC5\xC5\x79";
+    const TWO: [u8; 26] =
+        *b"\xEB\x90\0\0\0\0\0\0\x01\x74\0\0\0\0\0\0\x01\x74\xC5\xC5\xC5\xC5\xC5\xC5\xC5\x79";
+
+    // What is printed of one segment.
+    fn printed(
+        heap: Global,
+        setup: Setup,
+        view: View,
+        form: Form,
+        mut octets: &[u8],
+    ) -> anyhow::Result<Vec<u8>> {
+        let mut written = Vec::new(heap);
+        print_symbols(heap, setup, view, form, &mut octets, &mut written)?;
+        Ok(written)
+    }
+
+    fn usual() -> Result<Setup, Fail> {
+        Ok(Setup {
+            settings: Settings::new(Mode::Correcting, 37)?,
+            cells: 37,
+            randomizer: Randomizer::Off,
+        })
+    }
+
+    #[test]
+    fn receivers(rt: HostRuntime) -> Result<(), Fail> {
+        let usual = usual()?;
+        let random = Setup {
+            randomizer: Randomizer::On,
+            ..usual
+        };
+        let one_cell = Setup { cells: 1, ..usual };
+        let one_codeblock = Setup {
+            settings: Settings::new(Mode::Correcting, 1)?,
+            ..usual
+        };
+        let detecting = Setup {
+            settings: Settings::new(Mode::Detecting, 37)?,
+            ..usual
+        };
+        let mut wrong = ONE;
+        wrong[4] = 1;
+        let text = printed(rt.alloc(), random, View::Plain, Form::Packed, &ONE)?;
+        assert_eq!(rt; text.as_slice(), b"closed 1 0\nframe 7 FF399E5A68E907\nend 1 1\n".as_slice());
+        let text = printed(rt.alloc(), one_cell, View::Plain, Form::Packed, &TWO)?;
+        assert_eq!(rt; text.as_slice(), b"full 1 0\nend 1 0\n".as_slice());
+        let text = printed(rt.alloc(), one_codeblock, View::Plain, Form::Packed, &TWO)?;
+        assert_eq!(rt; text.as_slice(), b"long 1 0\nend 1 0\n".as_slice());
+        let text = printed(rt.alloc(), detecting, View::Plain, Form::Packed, &wrong)?;
+        assert_eq!(rt; text.as_slice(), b"empty 0 0\nend 1 0\n".as_slice());
+        let text = printed(rt.alloc(), usual, View::Plain, Form::Packed, &wrong)?;
+        assert_eq!(rt; text.as_slice(), b"closed 1 1\nframe 7 00000000000001\nend 1 1\n".as_slice());
+        Ok(())
+    }
+
+    #[test]
+    fn forms_and_views(rt: HostRuntime) -> Result<(), Fail> {
+        let usual = usual()?;
+        let mut bits = [0; 144];
+        let mut levels = [64; 144];
+        for place in 0..144 {
+            if ONE[place / 8] >> (7 - place % 8) & 1 == 1 {
+                bits[place] = 1;
+                levels[place] = 0xC0;
+            }
+        }
+        let text = printed(rt.alloc(), usual, View::Places, Form::Bits, &bits)?;
+        let places = b"at 1 144\nclosed 1 0\nframe 7 00000000000001\nend 1 1\n";
+        assert_eq!(rt; text.as_slice(), places.as_slice());
+        let text = printed(rt.alloc(), usual, View::Candidates, Form::Levels, &levels)?;
+        assert_eq!(rt; text.as_slice(), b"00000000000001\n".as_slice());
+        bits[99] = 2;
+        assert!(rt; printed(rt.alloc(), usual, View::Plain, Form::Bits, &bits).is_err());
+        let text = answer_record(rt.alloc(), usual, View::Candidates, &ONE)?;
+        assert_eq!(rt; text.as_str(), "refused 16\n");
+        Ok(())
+    }
+}

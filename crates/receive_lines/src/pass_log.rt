@@ -1,6 +1,6 @@
 use crate::error::one_more;
 use crate::{Place, ReceivingError, View};
-use hexadecimal::capitals;
+use hex::encode_upper;
 use hold::Hold;
 use receiver::Receiver;
 use reception::Report;
@@ -61,7 +61,7 @@ impl PassLog {
     {
         self.frames = one_more(self.frames)?;
         let count = octets.len();
-        let digits = capitals(self.heap, octets)?;
+        let digits = encode_upper(self.heap, octets)?;
         match self.view {
             View::Plain | View::Places => writeln!(self.text, "frame {count} {digits}")?,
             View::Candidates => writeln!(self.text, "{digits}")?,

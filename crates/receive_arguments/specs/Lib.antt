@@ -1,0 +1,2 @@
+-- The arguments of the program receive. Assumes nothing.
+pub mod Asked
