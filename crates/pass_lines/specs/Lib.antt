@@ -6,3 +6,4 @@ pub mod Received
 pub mod Places
 pub mod Forms
 pub mod Making
+pub mod Told

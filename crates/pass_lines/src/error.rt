@@ -1,10 +1,12 @@
 //! Why lines become no pass.
 
-ghost use Rattle.std.specs.Prelude.{◌≡◌};
+ghost use Rattle.std.specs.Prelude.{◌≡◌, Some};
+ghost use Rattle.pass_lines.specs.Told.{error_text};
 ghost use Rattle.pass_lines.specs.declared.error.PassError.TheVariants.{Memory};
 
 use crate::line::LineFault;
 use std::alloc::{AllocError, AllocFailed};
+use std::fmt;
 
 /// Why lines become no pass.
 #[derive(Clone, Copy, Debug, PartialEq, Eq)]
@@ -42,5 +44,23 @@ impl<T: Drop> From<AllocFailed<T>> for PassError {
 
     fn from(_e: AllocFailed<T>) -> PassError {
         PassError::Memory
+    }
+}
+
+/// Why, in words.
+impl fmt::Display for PassError {
+    ghost output = { λ e. Some (error_text e) };
+
+    fn fmt<W: fmt::Write>(&self, f: &mut fmt::Formatter<W>) -> fmt::Result {
+        match self {
+            PassError::Memory => f.write_str("out of memory"),
+            PassError::BadLine { number, fault } => write!(f, "line {number}: {fault}"),
+            PassError::PastTheEnd { place, symbols } => {
+                write!(f, "no symbol has the place {place}: there are {symbols}")
+            }
+            PassError::RecordTooLong => {
+                f.write_str("the record would have more than 65,535 octets")
+            }
+        }
     }
 }

@@ -1,16 +1,18 @@
 //! A line of the input, and what it gives.
 
-ghost use Rattle.std.specs.Prelude.{◌≡◌, ◌==◌, ◌-◌, IfOk, length, slice_index, vec_items};
+ghost use Rattle.std.specs.Prelude.{◌≡◌, ◌==◌, ◌-◌, IfOk, Some, length, slice_index, vec_items};
 ghost use Rattle.std.specs.Char.{is_ascii_digit};
 ghost use Rattle.std.specs.List.{before_first, after_first, list_all, position};
 ghost use Rattle.std.specs.Option.{option_map};
 ghost use Rattle.cltu.specs.Writing.{sent_cltu, length_answer};
+ghost use Rattle.pass_lines.specs.Told.{fault_text};
 ghost use Rattle.pass_lines.specs.Given.{is_number, is_end_line, octets_written, told_fill, told_digits, is_printed, told_cltu, if_sent, line_given, octets_given};
 
 use cltu::Sender;
 use hex::FromHexError;
 use refusals::Refusal;
 use std::alloc::{AllocError, Global};
+use std::fmt;
 
 /// What is wrong with a line.
 #[derive(Clone, Copy, Debug, PartialEq, Eq)]
@@ -168,5 +170,22 @@ pub(crate) fn line_given(
     match octets_written(heap, line)? {
         Some(frame) => cltu_of(heap, sender, frame.as_slice()),
         None => Ok(Err(LineFault::Unreadable)),
+    }
+}
+
+/// What is wrong, in words.
+impl fmt::Display for LineFault {
+    ghost output = { λ fault. Some (fault_text fault) };
+
+    fn fmt<W: fmt::Write>(&self, f: &mut fmt::Formatter<W>) -> fmt::Result {
+        match self {
+            LineFault::Unreadable => f.write_str(
+                "neither whole octets of hexadecimal digits nor a line that encode prints",
+            ),
+            LineFault::NotACltu => {
+                f.write_str("no CLTU as encode prints one: its numbers and digits do not agree")
+            }
+            LineFault::Refused(refusal) => write!(f, "{refusal}"),
+        }
     }
 }
