@@ -22,7 +22,7 @@ use std::time::Instant;
 use std::{array, fmt};
 
 // What is printed where nothing is to be measured.
-const HELP: &str = "\
+const UNASKED: &str = "\
 benchmarks: what the code costs, against rivals in the same run
 
 usage: benchmarks time
@@ -815,10 +815,12 @@ fn command<'a>(heap: Global) -> Result<Command<'a>, AllocError> {
 
 fn work(rt: &(impl Print + Clock + AllocGlobal), matches: &ArgMatches<'_>) -> Result<(), Failure> {
     match matches.get_str("WHAT") {
-        None => rt.println(HELP)?,
+        None => rt.println(UNASKED)?,
         Some("time") => time(rt)?,
         Some(other) => {
-            let why = format!(in rt.alloc(); "'{other}' cannot be measured; time can")?;
+            let why = format!(in rt.alloc();
+                "unknown argument '{other}'; --help tells what there is"
+            )?;
             return Err(Failure::Arguments(why));
         }
     }

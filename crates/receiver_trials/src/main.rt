@@ -692,7 +692,7 @@ trait Trial {
     fn run<H: Hold + Drop>(&self, bench: &mut Bench<'_, H>) -> anyhow::Result<()>;
 }
 
-/// Several commands with what lies between them.
+/// Several commands with what lies between them. Some break off, so that more calls come in DECODE.
 #[derive(Clone, Copy)]
 struct Pass;
 
@@ -700,8 +700,12 @@ impl Trial for Pass {
     fn run<H: Hold + Drop>(&self, bench: &mut Bench<'_, H>) -> anyhow::Result<()> {
         bench.refused()?;
         bench.carrier_up()?;
-        for _ in 0..6 {
-            let line = bench.command()?;
+        for _ in 0..7 {
+            let mut line = bench.command()?;
+            if bench.numbers.random_range(0..4u32) == 0 {
+                let end = bench.numbers.random_range(0..=line.len());
+                line.truncate(end);
+            }
             bench.line(line.as_slice())?;
             bench.between()?;
         }
