@@ -21,7 +21,7 @@ loop-part-preserved c =
     let next : drop i parts ≡ here ∷ drop (i + 1) parts = rw add-one (drop-cons parts i (record { ref_ptr = (0, 0); now = [] }) within) in
     let fits : FitsSigned w8 c.in-Some.level = search rules in
     let written : level here.now ≡ Some (to_z w8 (of_z w8 c.in-Some.level)) =
-        sym c.level.ensures ∙ c.in-Some.is ∙ ap Some (sym (to_z-of_z w8 c.in-Some.level fits)) in
+    sym c.level.ensures ∙ c.in-Some.is ∙ ap Some (sym (to_z-of_z w8 c.in-Some.level fits)) in
     let further = map (λ (w : Bor (List ℕ)). w.now) (drop (i + 1) parts) in
     ap (λ l. option_map (λ xs. l ++ xs) (all_written level further)) c.in_ok-push.ensures.items
     ∙ one_more level done here.now (to_z w8 (of_z w8 c.in-Some.level)) further written
