@@ -3,6 +3,7 @@
 ghost use Rattle.std.specs.Prelude.{◌≡◌, Some, None, Option, IfOk, IfErr};
 ghost use Rattle.command_line.specs.Status.{failure_status};
 ghost use Rattle.receive_lines.specs.declared.form.Form.{Form as Laid};
+ghost use Rattle.receive_arguments.specs.declared.arguments.ReceiveArguments.{ReceiveArguments as Arguments};
 ghost use Rattle.receive_arguments.specs.Asked.{given, view_asked, AsksForm, Asks};
 
 use clap::ArgMatches;
@@ -73,7 +74,9 @@ impl<'a> ReceiveArguments<'a> {
     /// What the matches of `command` ask for. The arguments are wrong where an option has a value that it does
     /// not take, and where both places and candidates alone are asked for.
     pub fn asked(heap: Global, matches: &ArgMatches<'a>) -> Result<ReceiveArguments<'a>, Failure>
-        ensures { IfOk result (Asks matches.now) }
+        ensures asked { IfOk result (Asks matches.now) }
+        ensures refused { IfErr result (λ failure. failure_status failure ≡ 2
+            → (asked : Arguments) → Asks matches.now asked → ⊥) }
     {
         let options = ReceiverOptions::asked(heap, matches)?;
         let view = asked_view(heap, matches)?;
