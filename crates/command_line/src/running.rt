@@ -69,10 +69,7 @@ where
 }
 
 // Parses the words.
-fn parsed<'a>(
-    command: &mut Command<'a>,
-    words: &'a [String],
-) -> Result<ArgMatches<'a>, clap::Error>
+fn parsed<'a>(command: &mut Command<'a>, words: &'a [String]) -> Result<ArgMatches<'a>, clap::Error>
     ensures { IsParse command.old (map string_bytes words.entry.now) result }
 {
     command.try_get_matches_from_mut(words)

@@ -47,5 +47,11 @@ where
 
 fn main(rt: HostRuntime) -> ExitCode {
     let words = words(&rt);
-    run(&rt, NAME, command(rt.alloc()), &words, |matches| work(&rt, matches))
+    run(
+        &rt,
+        NAME,
+        command(rt.alloc()),
+        &words,
+        |matches| work(&rt, matches),
+    )
 }

@@ -1,13 +1,13 @@
 //! The forms in which symbols are written.
 
-ghost use Rattle.std.specs.Prelude.{◌≡◌, ◌≤◌, ◌⊎◌, Some, Ok, Err, IfOk, IfErr, map, length};
-ghost use Rattle.pass_record.specs.Record.{octet_of, weighed, packed};
+ghost use Rattle.std.specs.Prelude.{◌≡◌, ◌⊎◌, Some, Ok, Err, IfOk, IfErr, map, length};
+ghost use Rattle.pass_record.specs.Record.{packed};
 ghost use Rattle.pass_lines.specs.Forms.{form_word, bit_octet, level_octet, record_made, octets_made, segment_symbols};
 ghost use Rattle.pass_lines.specs.Symbols.{all_symbols};
 ghost use Rattle.pass_lines.specs.declared.error.PassError.TheVariants.{Memory};
 
 use crate::PassError;
-use pass_record::{record_length, write_record};
+use pass_record::{octet_of, record_length, write_record};
 use std::alloc::{AllocError, Global};
 use std::fmt;
 
@@ -52,32 +52,6 @@ fn record(heap: Global, segments: &[&[bool]]) -> Result<Vec<u8>, PassError>
         }
         Err(_) => Err(PassError::RecordTooLong),
     }
-}
-
-// A symbol with its weight in an octet; past the last symbol the bits are zero.
-fn weighed(weight: u8, symbols: &[bool], place: usize) -> u8
-    ensures value { result ≡ weighed weight symbols.now place }
-    ensures most { result ≤ weight }
-{
-    if symbols.get(place).copied().unwrap_or(false) {
-        weight
-    } else {
-        0
-    }
-}
-
-// The first eight symbols in an octet, the first in its most significant bit.
-fn octet_of(symbols: &[bool]) -> u8
-    ensures { result ≡ octet_of symbols.now }
-{
-    weighed(128, symbols, 0)
-        + weighed(64, symbols, 1)
-        + weighed(32, symbols, 2)
-        + weighed(16, symbols, 3)
-        + weighed(8, symbols, 4)
-        + weighed(4, symbols, 5)
-        + weighed(2, symbols, 6)
-        + weighed(1, symbols, 7)
 }
 
 // Symbols, eight to an octet.

@@ -16,7 +16,7 @@ entry_fault_text (PaddingNotZero place) =
 
 abbrev pub record_fault_text : RecordFault → List ℕ
 record_fault_text (TooShort octets) = decimal octets ++ codes " octets, and a record has at least 8"
-record_fault_text (TooLong octets) = decimal octets ++ codes " octets, and a record has at most 65535"
+record_fault_text (TooLong octets) = codes "more than 65535 octets, and a record has no more"
 record_fault_text (EntriesEndElsewhere end due) =
     codes "the entries end at place " ++ (decimal end ++ (codes ", and are due to end at place " ++ decimal due))
 record_fault_text (Entry number fault) = codes "entry " ++ (decimal number ++ (codes ": " ++ entry_fault_text fault))

@@ -24,7 +24,7 @@ pub use entry_fault::EntryFault;
 pub use record::PassRecord;
 pub use record_fault::RecordFault;
 pub use segment::Segment;
-pub use writing::{record_length, write_record};
+pub use writing::{octet_of, record_length, write_record};
 
 /// How many octets a record has at most.
 const LONGEST_RECORD: usize = 65535;

@@ -29,8 +29,8 @@ impl fmt::Display for RecordFault {
             RecordFault::TooShort { octets } => {
                 write!(f, "{octets} octets, and a record has at least 8")
             }
-            RecordFault::TooLong { octets } => {
-                write!(f, "{octets} octets, and a record has at most 65535")
+            RecordFault::TooLong { .. } => {
+                f.write_str("more than 65535 octets, and a record has no more")
             }
             RecordFault::EntriesEndElsewhere { end, due } => {
                 write!(

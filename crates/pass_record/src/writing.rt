@@ -29,8 +29,9 @@ fn weighed(weight: u8, symbols: &[bool], place: usize) -> u8
     }
 }
 
-// The first eight symbols in an octet, the first in its most significant bit.
-fn octet_of(symbols: &[bool]) -> u8
+/// The first eight symbols in an octet, the first in its most significant bit; where there are fewer, the bits left
+/// over are zero.
+pub fn octet_of(symbols: &[bool]) -> u8
     ensures { result ≡ octet_of symbols.now }
 {
     weighed(128, symbols, 0)
