@@ -4,3 +4,4 @@ pub mod RowsLemmas
 pub mod Columns
 pub mod OneText
 pub mod Texts
+pub mod Commas

@@ -1,9 +1,8 @@
 -- What the arguments ask for. Assumes nothing.
-use Rattle.std.specs.Prelude.{◌≡◌, List, [], ◌∷◌, Option, Some, None, codes, if◌then◌else◌}
-use Rattle.std.specs.Option.{option_map}
-use Rattle.std.specs.List.{AllZip}
+use Rattle.std.specs.Prelude.{◌≡◌, ◌==◌, false, List, [], ◌∷◌, All, Option, Some, None, codes, unwrap_or, if◌then◌else◌}
+use Rattle.std.specs.List.{AllZip, slice_split, join_with_byte}
 use Rattle.std.specs.Str.{bytes_eq}
-use Rattle.clap.specs.Words.{Text, found_of, matched_of, raw_values, first_value}
+use Rattle.clap.specs.Words.{Text, found_of, first_value}
 use Rattle.clap.specs.declared.parser.matches.ArgMatches.{ArgMatches}
 use Rattle.cltu.specs.Limit.{codeblocks_allowed}
 use Rattle.cltu.specs.declared.limit.CodeblockLimit.{CodeblockLimit}
@@ -15,17 +14,18 @@ use Rattle.guard_times.specs.declared.asked.Form.{Form}
 use Rattle.guard_times.specs.declared.asked.Form.TheVariants.{Table, Csv}
 use Rattle.guard_times.specs.Rate.{bits_a_second}
 
--- the values of an option, or these where it is not given
-abbrev pub values_or : List Text → Option (List Text) → List Text
-values_or unasked None = unasked
-values_or unasked (Some values) = values
+-- the texts between the commas of a text
+abbrev pub between_commas : Text → List Text
+between_commas text = slice_split (λ b. b == 44) text
+
+-- they have no comma, and with a comma between each two they are the text
+pub record CommasPart : Type 0 where
+  pub joined : (text : Text) → join_with_byte 44 (between_commas text) ≡ text
+  pub alone : (text : Text) → All (λ b. (b == 44) ≡ false) text → between_commas text ≡ text ∷ []
 
 -- the limits as they are written: 1, 10, 37 and 147 where none are
-abbrev pub unasked : List Text
-unasked = codes "1" ∷ codes "10" ∷ codes "37" ∷ codes "147" ∷ []
-
-abbrev pub texts_asked : ArgMatches → List Text
-texts_asked matches = values_or unasked (option_map raw_values (matched_of (found_of matches) (codes "limit")))
+abbrev pub limits_text : ArgMatches → Text
+limits_text matches = unwrap_or (first_value (found_of matches) (codes "limit")) (codes "1,10,37,147")
 
 -- a text writes a limit; and texts write limits, in order
 abbrev pub WritesLimit : Text → CodeblockLimit → Type 0
@@ -35,7 +35,7 @@ abbrev pub WriteLimits : List Text → List CodeblockLimit → Type 0
 WriteLimits texts limits = AllZip WritesLimit texts limits
 
 abbrev pub AsksLimits : ArgMatches → List CodeblockLimit → Type 0
-AsksLimits matches limits = WriteLimits (texts_asked matches) limits
+AsksLimits matches limits = WriteLimits (between_commas (limits_text matches)) limits
 
 -- a text writes a rate; and where there is one, a rate is asked for
 abbrev pub WritesRate : Text → BitRate → Type 0

@@ -1,12 +1,12 @@
 //! The arguments that ask for guard times.
 
-ghost use Rattle.std.specs.Prelude.{◌≡◌, IfOk, IfErr, map, List, Option, Some, codes, false};
+ghost use Rattle.std.specs.Prelude.{◌≡◌, IfOk, IfErr, map, List, Option, codes, false};
 ghost use Rattle.clap.specs.Words.{rule_of, app_of};
 ghost use Rattle.command_line.specs.Status.{failure_status};
 ghost use Rattle.cltu.specs.declared.limit.CodeblockLimit.{CodeblockLimit as Limit};
-ghost use Rattle.guard_times.specs.Arguments.{WritesLimit, WriteLimits, AsksLimits, WritesRate, AsksRate, form_asked};
-ghost use Rattle.receiver_options.specs.Options.{option, flag};
-ghost use Rattle.guard_times.specs.Options.{limits_rule, with_guard_options as with_options};
+ghost use Rattle.guard_times.specs.Arguments.{CommasPart, between_commas, limits_text, WritesLimit, WriteLimits, AsksLimits, WritesRate, AsksRate, form_asked};
+ghost use Rattle.receiver_options.specs.Options.{option, option_with_default, flag};
+ghost use Rattle.guard_times.specs.Options.{with_guard_options as with_options};
 ghost use Rattle.guard_times.specs.declared.bit_rate.BitRate.{BitRate as Rate};
 
 use crate::{BitRate, Form};
@@ -17,21 +17,25 @@ use receiver_options::mode_option;
 use std::alloc::{AllocError, Global};
 
 // The limits where none are asked for.
-const UNASKED: [&str; 4] = ["1", "10", "37", "147"];
+const UNASKED: &str = "1,10,37,147";
 
 /// The option `--limit`, whose value is one limit, or several with commas between them.
 pub fn limits_option<'a>(heap: Global) -> Arg<'a>
-    ensures rule { rule_of result ≡ limits_rule }
-    ensures delimiter { result.val_delim ≡ Some 44 }
+    ensures rule { rule_of result ≡ option_with_default (codes "limit") (codes "1,10,37,147") }
     ensures local { result.global ≡ false }
 {
     Arg::new(heap, "limit")
         .long("limit")
         .value_name("L,..")
-        .value_delimiter(',')
-        .help(
-            "The most codeblocks that the receiver takes in a CLTU, each from 1 to 147 [default: 1,10,37,147]",
-        )
+        .default_value(UNASKED)
+        .help("The most codeblocks that the receiver takes in a CLTU, each from 1 to 147")
+}
+
+// The texts between the commas of a text.
+fn parts<'t>(heap: Global, text: &'t str) -> Result<Vec<&'t str>, AllocError>
+    ensures { IfOk result (λ parts. map (λ part. part.now) parts.items ≡ between_commas text.now) }
+{
+    text.split(',').collect(heap)
 }
 
 // The limit that a text writes.
@@ -58,16 +62,25 @@ fn limits_in(heap: Global, texts: &[&str]) -> Result<Vec<CodeblockLimit>, Failur
     Ok(limits)
 }
 
-/// The limits that are asked for, in order: 1, 10, 37 and 147 where `--limit` is not given.
+// The limits that are asked for, as they are written.
+fn limits_text<'a>(matches: &ArgMatches<'a>) -> &'a str
+    ensures { result.now ≡ limits_text matches.now }
+{
+    match matches.get_str("limit") {
+        Some(text) => text,
+        None => UNASKED,
+    }
+}
+
+/// The limits that are asked for, in order: 1, 10, 37 and 147 where `--limit` has no value.
 pub fn asked_limits(heap: Global, matches: &ArgMatches<'_>) -> Result<Vec<CodeblockLimit>, Failure>
     ensures limits { IfOk result (λ limits. AsksLimits matches.now limits.items) }
     ensures refused { IfErr result (λ failure. failure_status failure ≡ 2
         → (limits : List Limit) → AsksLimits matches.now limits → ⊥) }
+    ensures commas { CommasPart }
 {
-    match matches.get_strs("limit") {
-        Some(texts) => limits_in(heap, texts),
-        None => limits_in(heap, &UNASKED),
-    }
+    let texts = parts(heap, limits_text(matches))?;
+    limits_in(heap, texts.as_slice())
 }
 
 /// The option `--rate`.
