@@ -9,7 +9,8 @@ mod one_line;
 mod running;
 
 pub use failure::Failure;
-pub use input::{input_file, named_file, opened};
+pub use input::{file_of_word, input_file, named_file, opened};
+pub use mistakes::unknown_argument;
 pub use number::number_within;
 pub use running::{ended, program, run, words};
 

@@ -1,9 +1,19 @@
 //! What is wrong with the arguments, as the line of an error says it.
 
+ghost use Rattle.std.specs.Prelude.{◌≡◌, ◌++◌, IfOk, codes, string_bytes};
+
 use clap::builder::ValueParser;
 use clap::error::ErrorKind;
 use clap::{Arg, Command};
 use std::alloc::{AllocError, Global};
+
+/// The line of an error, without the program's name, for a word that no argument takes.
+pub fn unknown_argument(heap: Global, word: &str) -> Result<String, AllocError>
+    ensures { IfOk result (λ line. string_bytes line
+        ≡ codes "unknown argument '" ++ word.now ++ codes "'; --help tells what there is") }
+{
+    format!(in heap; "unknown argument '{word}'; --help tells what there is")
+}
 
 // The text behind the first of `before`, up to the first of `after` behind that.
 fn between<'t>(text: &'t str, before: &str, after: &str) -> Option<&'t str> {
@@ -67,8 +77,7 @@ pub(crate) fn mistake(
     let text = text.as_str();
     match error.kind() {
         ErrorKind::UnknownArgument => {
-            let word = between(text, "argument '", "' found").unwrap_or("");
-            format!(in heap; "unknown argument '{word}'; --help tells what there is")
+            unknown_argument(heap, between(text, "argument '", "' found").unwrap_or(""))
         }
         ErrorKind::InvalidValue | ErrorKind::ValueValidation => wrong_value(heap, command, text),
         ErrorKind::TooManyValues => {

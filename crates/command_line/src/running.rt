@@ -1,8 +1,17 @@
 //! How a program runs.
 
+ghost use Rattle.std.specs.Prelude.{◌≡◌, map, string_bytes};
+ghost use Rattle.std.specs.IoError.{error_kind};
+ghost use Rattle.std.specs.Process.{exit_status};
+ghost use Rattle.clap.specs.Words.{app_of, kind_of};
+ghost use Rattle.command_line.specs.Program.{program_app};
+ghost use Rattle.command_line.specs.Running.{Ends, EndsOn, EndsWithout, IsParse, unread_status};
+ghost use Rattle.command_line.specs.Status.{failure_status, status_of};
+
 use crate::mistakes::mistake;
 use crate::one_line::without_controls;
 use crate::{Failure, VERSION};
+use anyhow::anyhow;
 use clap::error::ErrorKind;
 use clap::{ArgMatches, Command};
 use std::alloc::{AllocError, Global};
@@ -20,52 +29,79 @@ pub fn words<R: Env + AllocGlobal>(rt: &R) -> io::Result<Vec<String>> {
 }
 
 /// The command of a program of this name, with no arguments yet but `--help` and `--version`.
-pub fn program<'a>(heap: Global, name: &'a str) -> Command<'a> {
+pub fn program<'a>(heap: Global, name: &'a str) -> Command<'a>
+    ensures { app_of result ≡ program_app name.entry.now }
+{
     Command::new(heap, name).version(VERSION)
 }
 
-// What the arguments ask for, where it is not the program's work.
-#[derive(Drop)]
-enum Unasked {
-    // A text to print: the help, or the version.
-    Text(String),
-    // Nothing that can be done.
-    Nothing(Failure),
-}
-
-impl From<AllocError> for Unasked {
-    fn from(error: AllocError) -> Unasked {
-        Unasked::Nothing(error.into())
+// Why there are no words: one of them is no text, or the system did not give them.
+fn unread(heap: Global, error: io::Error) -> Failure
+    ensures { failure_status result ≡ unread_status (error_kind error) }
+{
+    match error.kind() {
+        io::ErrorKind::InvalidData => Failure::Arguments(String::from_str(
+            heap,
+            "a word of the arguments is not UTF-8",
+        ).unwrap_or(String::new(heap))),
+        _ => error.into(),
     }
 }
 
-// Why a parse gave no matches.
-fn reason(heap: Global, command: &Command<'_>, error: &clap::Error) -> Result<Unasked, AllocError> {
-    Ok(match error.kind() {
-        ErrorKind::DisplayHelp | ErrorKind::DisplayVersion => Unasked::Text(error.to_string(heap)?),
-        ErrorKind::OutOfMemory => AllocError.into(),
-        _ => Unasked::Nothing(Failure::Arguments(mistake(heap, command, error)?)),
-    })
+// What is done where the words give no matches: the help or the version is printed, or nothing can be done.
+fn done_without<R>(rt: &R, command: &Command<'_>, error: &clap::Error) -> Result<(), Failure>
+where
+    R: Print + Eprint + AllocGlobal,
+    ensures { EndsWithout (kind_of error.now) (status_of result) }
+{
+    match error.kind() {
+        ErrorKind::DisplayHelp | ErrorKind::DisplayVersion => {
+            error.print(rt)?;
+            Ok(())
+        }
+        ErrorKind::OutOfMemory => Err(AllocError.into()),
+        _ => {
+            let heap = rt.alloc();
+            let text = mistake(heap, command, error).unwrap_or(String::new(heap));
+            Err(Failure::Arguments(text))
+        }
+    }
 }
 
-// What the words ask for.
+// Parses the words.
 fn parsed<'a>(
-    heap: Global,
-    command: Result<Command<'a>, AllocError>,
+    command: &mut Command<'a>,
+    words: &'a [String],
+) -> Result<ArgMatches<'a>, clap::Error>
+    ensures { IsParse command.old (map string_bytes words.entry.now) result }
+{
+    command.try_get_matches_from_mut(words)
+}
+
+// Does what the words ask for.
+fn done<'a, R, W>(
+    rt: &R,
+    mut command: Command<'a>,
     words: &'a io::Result<Vec<String>>,
-) -> Result<ArgMatches<'a>, Unasked> {
-    let mut command = command?;
+    work: W,
+) -> Result<(), Failure>
+where
+    R: Print + Eprint + AllocGlobal,
+    W: FnOnce(&ArgMatches<'a>) -> Result<(), Failure>,
+    requires { W.IsAlwaysCallable work }
+    ensures { EndsOn W.FnOnce work command.entry words.entry.now (status_of result) }
+{
     let words = match words {
         Ok(words) => words.as_slice(),
-        Err(e) => return Err(Unasked::Nothing(Failure::from(*e))),
+        Err(e) => return Err(unread(rt.alloc(), *e)),
     };
-    match command.try_get_matches_from_mut(words) {
-        Ok(matches) => Ok(matches),
-        Err(e) => Err(reason(heap, &command, &e)?),
+    match parsed(&mut command, words) {
+        Ok(matches) => work(&matches),
+        Err(e) => done_without(rt, &command, &e),
     }
 }
 
-// Prints the line of an error, but for a pipe that nobody reads any more.
+// Prints the line of a failure, but for a pipe that nobody reads any more.
 fn tell<R: Eprint + AllocGlobal>(rt: &R, name: &str, failure: &Failure) -> io::Result<()> {
     let heap = rt.alloc();
     let line = match failure {
@@ -78,8 +114,14 @@ fn tell<R: Eprint + AllocGlobal>(rt: &R, name: &str, failure: &Failure) -> io::R
     eprintln!(rt; "{name}: {line}")
 }
 
-/// How a program of this name ends whose work ended so.
-pub fn ended<R: Eprint + AllocGlobal>(rt: &R, name: &str, done: Result<(), Failure>) -> ExitCode {
+/// How a program of this name ends whose work ended so: with 0 where it was done, with 2 where the arguments are
+/// wrong, and with 1 where the work failed. A failure is one line on standard error that begins with the name;
+/// where nobody reads a pipe any more there is none.
+pub fn ended<R>(rt: &R, name: &str, done: Result<(), Failure>) -> ExitCode
+where
+    R: Eprint + AllocGlobal,
+    ensures { exit_status result ≡ status_of done }
+{
     match done {
         Ok(()) => ExitCode::SUCCESS,
         Err(failure) => {
@@ -93,7 +135,8 @@ pub fn ended<R: Eprint + AllocGlobal>(rt: &R, name: &str, done: Result<(), Failu
     }
 }
 
-/// Runs a program on the words that it was called with: its work, or its help or version.
+/// Runs a program of this name on the words that it was called with: its work on what the arguments are, or its
+/// help or version.
 pub fn run<'a, R, W>(
     rt: &R,
     name: &str,
@@ -105,11 +148,11 @@ where
     R: Print + Eprint + AllocGlobal,
     W: FnOnce(&ArgMatches<'a>) -> Result<(), Failure>,
     requires { W.IsAlwaysCallable work }
+    ensures { Ends W.FnOnce work command.entry words.entry.now (exit_status result) }
 {
-    let done = match parsed(rt.alloc(), command, words) {
-        Ok(matches) => work(&matches),
-        Err(Unasked::Text(text)) => rt.print(text.as_str()).map_err(Failure::from),
-        Err(Unasked::Nothing(failure)) => Err(failure),
+    let done = match command {
+        Ok(command) => done(rt, command, words, work),
+        Err(e) => Err(e.into()),
     };
     ended(rt, name, done)
 }

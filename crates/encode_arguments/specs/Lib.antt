@@ -1,0 +1,2 @@
+-- The arguments of the program encode. Assumes nothing.
+pub mod Words

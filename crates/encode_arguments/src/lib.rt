@@ -1,0 +1,45 @@
+//! The arguments of the program `encode`: `random` or `--random`, and the file that it reads.
+#![tactic(auto)]
+
+mod arguments;
+
+pub use arguments::EncodeArguments;
+use clap::{Arg, Command};
+use command_line::program;
+use receiver_options::random_option;
+use std::alloc::{AllocError, Global};
+
+/// The program's name.
+pub const NAME: &str = "encode";
+
+const LINES: &str = "\
+Each line read is a frame in hexadecimal digits of either case, two an octet. Each is answered by one
+line:
+
+  cltu CODEBLOCKS FILL OCTETS DIGITS   its CLTU: how many codeblocks, fill octets and octets,
+                                       and the octets in capitals
+  refused 1                            the frame is empty or longer than 1,024 octets
+  unreadable                           the line is not whole octets of hexadecimal digits
+
+An empty line is an empty frame. A line ends with a newline, or a carriage return and a newline;
+the last may lack its end. After the last line comes
+
+  end LINES CLTUS                      how many lines were read and how many CLTUs written
+
+A CLTU has at most 147 codeblocks.";
+
+/// The program's arguments.
+pub fn command<'a>(heap: Global) -> Result<Command<'a>, AllocError> {
+    let word = Arg::new(heap, "word")
+        .value_name("random")
+        .help("The same as --random; a file of this name is ./random");
+    let file = Arg::new(heap, "file").value_name("FILE").help(
+        "The file to read; without it, or where it is -, standard input",
+    );
+    program(heap, NAME)
+        .about("encode: writes frames as CLTUs")
+        .after_help(LINES)
+        .arg(random_option(heap))?
+        .arg(word)?
+        .arg(file)
+}
