@@ -1,6 +1,10 @@
 //! The arguments of the program `encode`: `random` or `--random`, and the file that it reads.
 #![tactic(auto)]
 
+ghost use Rattle.std.specs.Prelude.{◌≡◌, IfOk};
+ghost use Rattle.clap.specs.Words.{app_of};
+ghost use Rattle.encode_arguments.specs.Command.{encode_app};
+
 mod arguments;
 
 pub use arguments::EncodeArguments;
@@ -29,7 +33,9 @@ the last may lack its end. After the last line comes
 A CLTU has at most 147 codeblocks.";
 
 /// The program's arguments.
-pub fn command<'a>(heap: Global) -> Result<Command<'a>, AllocError> {
+pub fn command<'a>(heap: Global) -> Result<Command<'a>, AllocError>
+    ensures { IfOk result (λ made. app_of made ≡ encode_app) }
+{
     let word = Arg::new(heap, "word")
         .value_name("random")
         .help("The same as --random; a file of this name is ./random");

@@ -60,3 +60,69 @@ impl ReceiverOptions {
         })
     }
 }
+
+#[cfg(test)]
+mod tests {
+    use super::*;
+    use command_line::program;
+    use std::test::Fail;
+
+    // The receiver that these words behind the program's name ask for, or `None` where they are wrong.
+    fn asked_by<'a>(heap: Global, words: &'a [&'a str]) -> Result<Option<ReceiverOptions>, Fail> {
+        let command = with_receiver_options(heap, program(heap, "receive"))?;
+        match command.try_get_matches_from(words) {
+            Ok(matches) => Ok(ReceiverOptions::asked(heap, &matches).ok()),
+            Err(_) => Ok(None),
+        }
+    }
+
+    #[test]
+    fn each_option(rt: HostRuntime) -> Result<(), Fail> {
+        let heap = rt.alloc();
+        let unasked = ReceiverOptions {
+            mode: Mode::Correcting,
+            limit: CodeblockLimit::try_from(37usize)?,
+            cells: 37,
+            randomizer: Randomizer::Off,
+        };
+        assert_eq!(rt; asked_by(heap, &["receive"])?, Some(unasked));
+        let words = [
+            "receive",
+            "--mode",
+            "detecting",
+            "--limit=147",
+            "--cells",
+            "0",
+            "--random",
+        ];
+        let all = asked_by(heap, &words)?;
+        assert_eq!(rt;
+            all,
+            Some(ReceiverOptions {
+                mode: Mode::Detecting,
+                limit: CodeblockLimit::MOST,
+                cells: 0,
+                randomizer: Randomizer::On,
+            })
+        );
+        let many = asked_by(heap, &["receive", "--cells=65535"])?;
+        assert_eq!(rt;
+            many,
+            Some(ReceiverOptions {
+                cells: 65535,
+                ..unasked
+            })
+        );
+        for wrong in [
+            "--limit=0",
+            "--limit=148",
+            "--limit=",
+            "--cells=65536",
+            "--cells=-1",
+            "--mode=both",
+        ] {
+            assert_eq!(rt; asked_by(heap, &["receive", wrong])?, None);
+        }
+        Ok(())
+    }
+}
