@@ -6,7 +6,7 @@ use chain::{Chain, LinkedCell};
 use clap::{Arg, ArgMatches, Command};
 use cltu::{CodeblockLimit, LONGEST_CLTU, Sender};
 use coding::{codeblock, judge};
-use command_line::{Failure, program, run, words};
+use command_line::{Failure, program, run, unknown_argument, words};
 use decoding::Settings;
 use hold::{Hold, copy_oldest};
 use queue::Queue;
@@ -21,8 +21,7 @@ use std::rt::Clock;
 use std::time::Instant;
 use std::{array, fmt};
 
-// What is printed where nothing is to be measured.
-const UNASKED: &str = "\
+const HELP: &str = "\
 benchmarks: what the code costs, against rivals in the same run
 
 usage: benchmarks time
@@ -809,19 +808,16 @@ const NAME: &str = "benchmarks";
 
 fn command<'a>(heap: Global) -> Result<Command<'a>, AllocError> {
     program(heap, NAME)
-        .about("What the code costs, against rivals in the same run")
-        .arg(Arg::new(heap, "WHAT").help("time: measures; without it, nothing is measured"))
+        .override_help(HELP)
+        .arg(Arg::new(heap, "WHAT"))
 }
 
 fn work(rt: &(impl Print + Clock + AllocGlobal), matches: &ArgMatches<'_>) -> Result<(), Failure> {
     match matches.get_str("WHAT") {
-        None => rt.println(UNASKED)?,
+        None => rt.println(HELP)?,
         Some("time") => time(rt)?,
         Some(other) => {
-            let why = format!(in rt.alloc();
-                "unknown argument '{other}'; --help tells what there is"
-            )?;
-            return Err(Failure::Arguments(why));
+            return Err(Failure::Arguments(unknown_argument(rt.alloc(), other)?));
         }
     }
     Ok(())
@@ -829,11 +825,5 @@ fn work(rt: &(impl Print + Clock + AllocGlobal), matches: &ArgMatches<'_>) -> Re
 
 fn main(rt: HostRuntime) -> ExitCode {
     let words = words(&rt);
-    run(
-        &rt,
-        NAME,
-        command(rt.alloc()),
-        &words,
-        |matches| work(&rt, matches),
-    )
+    run(&rt, NAME, command(rt.alloc()), &words, |matches| work(&rt, matches))
 }
