@@ -9,3 +9,4 @@ mod Segments
 mod CutApart
 mod Packing
 mod Passing
+mod Laws

@@ -7,3 +7,4 @@ pub mod Places
 pub mod Forms
 pub mod Making
 pub mod Told
+pub mod Laws

@@ -4,6 +4,7 @@
 ghost use Rattle.std.specs.Prelude.{◌≡◌, ◌⊎◌, Some, Ok, Err, IfOk, IfErr};
 ghost use Rattle.pass_lines.specs.Cltus.{octets_of_each};
 ghost use Rattle.pass_lines.specs.Making.{segments_made, sent_by, pass_answer, made, pass_text};
+ghost use Rattle.pass_lines.specs.Laws.{WrongWhereNamed, RecordsHoldSegments};
 ghost use Rattle.pass_lines.specs.declared.error.PassError.TheVariants.{Memory};
 
 use std::alloc::Global;
@@ -76,11 +77,50 @@ fn pass_of(heap: Global, settings: &PassSettings, cltus: &[Vec<u8>]) -> Result<P
     })
 }
 
-/// The pass of the CLTUs that the lines of an input give.
+/// The pass of the CLTUs that the lines of an input give: each with idle in front, and the symbols at the named places
+/// wrong.
+#[tactic(auto, using(crate::proofs::Laws::wrong_where_named, crate::proofs::Laws::records_hold_segments))]
 pub fn pass_of_lines(heap: Global, settings: &PassSettings, input: &[u8]) -> Result<Pass, PassError>
     ensures made { IfOk result (λ pass. pass_answer settings.now input.now ≡ Ok (made pass)) }
     ensures none { IfErr result (λ e. (e ≡ Memory) ⊎ (pass_answer settings.now input.now ≡ Err e)) }
+    ensures wrong { WrongWhereNamed }
+    ensures records { RecordsHoldSegments }
 {
     let cltus = read_cltus(heap, settings.sender, input)?;
     pass_of(heap, settings, cltus.as_slice())
+}
+
+#[cfg(test)]
+mod tests {
+    use super::*;
+    use cltu::{CodeblockLimit, Sender};
+    use randomizer::Randomizer;
+    use std::test::Fail;
+
+    // Eight bits of idle that begins with a one, of which the first and the last are wrong.
+    fn settings(heap: Global, form: Form) -> Result<PassSettings, Fail> {
+        let wrong = WrongPlaces::new(vec![in heap; 7, 0]?);
+        Ok(PassSettings {
+            sender: Sender {
+                limit: CodeblockLimit::most(),
+                randomizer: Randomizer::On,
+            },
+            guard: 8,
+            first: true,
+            apart: true,
+            wrong: wrong.unwrap_or(WrongPlaces::none(heap)),
+            form,
+        })
+    }
+
+    #[test]
+    fn record_of_one(rt: HostRuntime) -> Result<(), Fail> {
+        let heap = rt.alloc();
+        let pass = pass_of_lines(heap, &settings(heap, Form::Record)?, b"end 0 0\r\n00")?;
+        assert_eq!(rt;
+            hex::encode_upper(heap, pass.octets.as_slice())?.as_str(),
+            "2BEB90FF6CCB0F3DBC5330C5C5C5C5C5C5C57900000000000000980000000100000013"
+        );
+        Ok(())
+    }
 }
