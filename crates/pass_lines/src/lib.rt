@@ -113,14 +113,29 @@ mod tests {
         })
     }
 
+    // What one frame becomes in a form, the first octets of it.
+    fn begins(heap: Global, form: Form, digits: &str) -> Result<bool, Fail> {
+        let pass = pass_of_lines(heap, &settings(heap, form)?, b"end 0 0\r\n00")?;
+        let text = hex::encode_upper(heap, pass.octets.as_slice())?;
+        Ok(text.as_str().starts_with(digits))
+    }
+
     #[test]
-    fn record_of_one(rt: HostRuntime) -> Result<(), Fail> {
-        let heap = rt.alloc();
-        let pass = pass_of_lines(heap, &settings(heap, Form::Record)?, b"end 0 0\r\n00")?;
-        assert_eq!(rt;
-            hex::encode_upper(heap, pass.octets.as_slice())?.as_str(),
-            "2BEB90FF6CCB0F3DBC5330C5C5C5C5C5C5C57900000000000000980000000100000013"
-        );
+    fn each_form(rt: HostRuntime) -> Result<(), Fail> {
+        for (form, digits) in [
+            (
+                Form::Record,
+                "2BEB90FF6CCB0F3DBC5330C5C5C5C5C5C5C57900000000000000980000000100000013",
+            ),
+            (
+                Form::Packed,
+                "2BEB90FF6CCB0F3DBC5330C5C5C5C5C5C5C579",
+            ),
+            (Form::Bits, "00000100010001010101010001000101"),
+            (Form::Levels, "4040C040C040C0C0C0C0C040C040C0C0"),
+        ] {
+            assert!(rt; begins(rt.alloc(), form, digits)?);
+        }
         Ok(())
     }
 }
