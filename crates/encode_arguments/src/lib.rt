@@ -1,9 +1,10 @@
 //! The arguments of the program `encode`: `random` or `--random`, and the file that it reads.
 #![tactic(auto)]
 
-ghost use Rattle.std.specs.Prelude.{◌≡◌, IfOk};
-ghost use Rattle.clap.specs.Words.{app_of};
-ghost use Rattle.encode_arguments.specs.Command.{encode_app};
+ghost use Rattle.std.specs.Prelude.{◌≡◌, IfOk, codes, false};
+ghost use Rattle.clap.specs.Words.{app_of, rule_of};
+ghost use Rattle.command_line.specs.Program.{program_app};
+ghost use Rattle.encode_arguments.specs.Command.{encode_app, word as plain_word};
 
 mod arguments;
 
@@ -32,20 +33,39 @@ the last may lack its end. After the last line comes
 
 A CLTU has at most 147 codeblocks.";
 
+// A word that is no option.
+fn word<'a>(heap: Global, id: &'a str, shown: &'a str, help: &'a str) -> Arg<'a>
+    ensures rule { rule_of result ≡ plain_word id.entry.now }
+    ensures local { result.global ≡ false }
+{
+    Arg::new(heap, id).value_name(shown).help(help)
+}
+
+// The program's name and help.
+fn described<'a>(heap: Global) -> Command<'a>
+    ensures { app_of result ≡ program_app (codes "encode") }
+{
+    program(heap, NAME)
+        .about("encode: writes frames as CLTUs")
+        .after_help(LINES)
+}
+
 /// The program's arguments.
 pub fn command<'a>(heap: Global) -> Result<Command<'a>, AllocError>
     ensures { IfOk result (λ made. app_of made ≡ encode_app) }
 {
-    let word = Arg::new(heap, "word")
-        .value_name("random")
-        .help("The same as --random; a file of this name is ./random");
-    let file = Arg::new(heap, "file").value_name("FILE").help(
-        "The file to read; without it, or where it is -, standard input",
-    );
-    program(heap, NAME)
-        .about("encode: writes frames as CLTUs")
-        .after_help(LINES)
+    described(heap)
         .arg(random_option(heap))?
-        .arg(word)?
-        .arg(file)
+        .arg(word(
+            heap,
+            "word",
+            "random",
+            "The same as --random; a file of this name is ./random",
+        ))?
+        .arg(word(
+            heap,
+            "file",
+            "FILE",
+            "The file to read; without it, or where it is -, standard input",
+        ))
 }
