@@ -825,5 +825,11 @@ fn work(rt: &(impl Print + Clock + AllocGlobal), matches: &ArgMatches<'_>) -> Re
 
 fn main(rt: HostRuntime) -> ExitCode {
     let words = words(&rt);
-    run(&rt, NAME, command(rt.alloc()), &words, |matches| work(&rt, matches))
+    run(
+        &rt,
+        NAME,
+        command(rt.alloc()),
+        &words,
+        |matches| work(&rt, matches),
+    )
 }
