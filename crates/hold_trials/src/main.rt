@@ -4,7 +4,7 @@
 #![tactic(auto)]
 
 use chain::{Chain, LinkedCell};
-use command_line::{Failure, program, run, words};
+use command_line::{program, run, words};
 use derandomizing::Derandomizing;
 use hold::{Hold, copy_oldest};
 use rand::RngExt;
@@ -252,7 +252,7 @@ fn tried<R: Hold + Drop, C: Hold + Drop>(
 }
 
 /// All trials.
-fn work(rt: &(impl Print + AllocGlobal)) -> Result<(), Failure> {
+fn work(rt: &(impl Print + AllocGlobal)) -> anyhow::Result<()> {
     let heap = rt.alloc();
     let mut cells = [Cell::EMPTY; 5];
     let mut links = [LinkedCell::EMPTY; 5];
@@ -292,11 +292,12 @@ fn work(rt: &(impl Print + AllocGlobal)) -> Result<(), Failure> {
 
 const NAME: &str = "hold_trials";
 
+const ABOUT: &str = "\
+hold_trials: runs a ring and a chain, and the layer over each, beside a model that keeps lists, and
+counts the answers that differ";
+
 fn main(rt: HostRuntime) -> ExitCode {
     let words = words(&rt);
-    let command = program(rt.alloc(), NAME).about(
-        "Runs a ring and a chain, and the layer over each, beside a model that keeps lists, and \
-counts the answers that differ",
-    );
-    run(&rt, NAME, Ok(command), &words, |_| work(&rt))
+    let command = program(rt.alloc(), NAME).about(ABOUT);
+    run(&rt, NAME, Ok(command), &words, |_| Ok(work(&rt)?))
 }

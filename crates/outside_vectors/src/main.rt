@@ -98,11 +98,21 @@ where
 
 const NAME: &str = "outside_vectors";
 
+const LINES: &str = "\
+Each line has hexadecimal digits of either case, and is answered by one line:
+
+  code DIGITS   seven octets of information: codeblock, and the octets of their codeblock
+  word DIGITS   eight octets as received: syndrome, its parity and its number; place, the degree at
+                which a bit is wrong, or -; and for each mode rejected, or the information, behind
+                which stands corrected where a bit was turned
+  any other     unreadable";
+
 fn command<'a>(heap: Global) -> Result<Command<'a>, AllocError> {
     program(heap, NAME)
         .about(
-            "Answers lines that ask for a codeblock or for a verdict, to be compared with another encoder",
+            "outside_vectors: codeblocks and verdicts, to be compared with those of another encoder",
         )
+        .after_help(LINES)
         .arg(input_file(heap))
 }
 

@@ -5,7 +5,7 @@ use anyhow::Context;
 use bch::Mode;
 use chain::{Chain, LinkedCell};
 use cltu::{CodeblockLimit, LONGEST_CLTU, Sender};
-use command_line::{Failure, program, words};
+use command_line::{program, words};
 use decoding::Settings;
 use derandomizing::Derandomizing;
 use hold::Hold;
@@ -974,7 +974,7 @@ fn with_room(setup: Setup) -> Setup {
 }
 
 /// All trials.
-fn work(rt: &(impl Print + AllocGlobal)) -> Result<(), Failure> {
+fn work(rt: &(impl Print + AllocGlobal)) -> anyhow::Result<()> {
     let mut trials = Trials {
         rt,
         numbers: Pcg32::new(1, 0),
@@ -996,10 +996,12 @@ fn work(rt: &(impl Print + AllocGlobal)) -> Result<(), Failure> {
 
 const NAME: &str = "receiver_trials";
 
+const ABOUT: &str = "\
+receiver_trials: runs receivers beside a model of reception in plain lists, and counts the answers
+that differ";
+
 fn main(rt: HostRuntime) -> ExitCode {
     let words = words(&rt);
-    let command = program(rt.alloc(), NAME).about(
-        "Runs receivers beside a model of reception in plain lists, and counts the answers that differ",
-    );
-    command_line::run(&rt, NAME, Ok(command), &words, |_| work(&rt))
+    let command = program(rt.alloc(), NAME).about(ABOUT);
+    command_line::run(&rt, NAME, Ok(command), &words, |_| Ok(work(&rt)?))
 }

@@ -724,10 +724,12 @@ fn work(rt: &(impl Print + AllocGlobal)) -> Result<(), Failure> {
 
 const NAME: &str = "session_trials";
 
+const ABOUT: &str = "\
+session_trials: runs sessions into receivers, where what is sent has to come back, and counts what
+differs";
+
 fn main(rt: HostRuntime) -> ExitCode {
     let words = words(&rt);
-    let command = program(rt.alloc(), NAME).about(
-        "Runs sessions into receivers: what is sent has to come back, and what differs is counted",
-    );
+    let command = program(rt.alloc(), NAME).about(ABOUT);
     command_line::run(&rt, NAME, Ok(command), &words, |_| work(&rt))
 }
