@@ -139,7 +139,7 @@ module _ (settings : Settings) (showing : Showing) where
       subst (λ l. Fits (lines_told p.place o ++ l) (told_of settings showing s (p ∷ ps)) (new_candidates settings showing s (with_releases settings showing s (events_among (p ∷ ps)))))
       (ap (λ t. lines_of settings showing t ps) (sym same))
       (subst (Fits (lines_told p.place o ++ lines_of settings showing there ps) (told_of settings showing s (p ∷ ps))) (sym (candidates_more settings showing s p.event (events_among ps)))
-          (fits_then (lines_told p.place o) (lines_of settings showing there ps) (map (told_at p.place) o.reports) (told_of settings showing there ps) (announced s.held.opened o.reports) new one.fits rest))
+      (fits_then (lines_told p.place o) (lines_of settings showing there ps) (map (told_at p.place) o.reports) (told_of settings showing there ps) (announced s.held.opened o.reports) new one.fits rest))
 
 -- ---- as many cells as the limit
 

@@ -179,7 +179,7 @@ placed_append place [] more = ap (λ n. placed_symbols (place_in place.segment n
 placed_append place (b ∷ bits) more =
     ap (λ l. placed (next_symbol place) (symbol b) ∷ l)
     (placed_append (next_symbol place) bits more
-        ∙ ap (λ n. placed_symbols (next_symbol place) bits ++ placed_symbols (place_in place.segment n) more) (omega arith))
+    ∙ ap (λ n. placed_symbols (next_symbol place) bits ++ placed_symbols (place_in place.segment n) more) (omega arith))
 
 pub no_symbols : {X : Type 0} (hold : Ghosts X) (a : Receiving X hold) → PassedSymbols hold [] a a
 no_symbols hold a = record { place = ap (place_in a.place.segment) (omega arith); goes = passed_none hold a }
@@ -211,7 +211,7 @@ segment_passed hold bits a b c d begun up symbols down =
     let at_end : c.place ≡ place_in k (length bits) = symbols.place ∙ ap (λ p. last_of p bits) begun ∙ ap (place_in k) (omega arith) in
     passed_as (ap (λ l. placed (place_in k 0) carrier_up ∷ l) (ap₂ (λ p q. placed_symbols p bits ++ placed q carrier_down ∷ []) begun at_end))
     (passed_then hold (placed (place_in k 0) carrier_up ∷ []) (placed_symbols b.place bits ++ placed c.place carrier_down ∷ []) a b d up
-        (passed_then hold (placed_symbols b.place bits) (placed c.place carrier_down ∷ []) b c d symbols.goes down))
+    (passed_then hold (placed_symbols b.place bits) (placed c.place carrier_down ∷ []) b c d symbols.goes down))
 
 pub segments_append : (n : ℕ) (a b : List (List Bool)) → placed_segments n (a ++ b) ≡ placed_segments n a ++ placed_segments (n + length a) b
 segments_append n [] b = ap (λ k. placed_segments k b) (omega arith)
@@ -242,7 +242,7 @@ segment_placed : (n : ℕ) (bits : List Bool) → events_among (placed_segment n
 segment_placed n bits =
     ap (λ l. carrier_up ∷ l)
     (events_append (placed_symbols (place_in n 0) bits) (placed (place_in n (length bits)) carrier_down ∷ [])
-        ∙ ap (λ l. l ++ carrier_down ∷ []) (symbols_placed (place_in n 0) bits))
+    ∙ ap (λ l. l ++ carrier_down ∷ []) (symbols_placed (place_in n 0) bits))
 
 segments_placed : (n : ℕ) (segments : List (List Bool)) → events_among (placed_segments n segments) ≡ pass_events segments
 segments_placed n [] = refl

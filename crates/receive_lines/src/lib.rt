@@ -178,6 +178,7 @@ mod tests {
 
     // A CLTU of one codeblock, and one of two.
     const ONE: [u8; 18] = *b"\xEB\x90\0\0\0\0\0\0\x01\x74\xC5\xC5\xC5\xC5\xC5\xC5\xC5\x79";
+
     const TWO: [u8; 26] =
         *b"\xEB\x90\0\0\0\0\0\0\x01\x74\0\0\0\0\0\0\x01\x74\xC5\xC5\xC5\xC5\xC5\xC5\xC5\x79";
 
@@ -221,7 +222,10 @@ mod tests {
         let mut wrong = ONE;
         wrong[4] = 1;
         let text = printed(rt.alloc(), random, View::Plain, Form::Packed, &ONE)?;
-        assert_eq!(rt; text.as_slice(), b"closed 1 0\nframe 7 FF399E5A68E907\nend 1 1\n".as_slice());
+        assert_eq!(rt;
+            text.as_slice(),
+            b"closed 1 0\nframe 7 FF399E5A68E907\nend 1 1\n".as_slice()
+        );
         let text = printed(rt.alloc(), one_cell, View::Plain, Form::Packed, &TWO)?;
         assert_eq!(rt; text.as_slice(), b"full 1 0\nend 1 0\n".as_slice());
         let text = printed(rt.alloc(), one_codeblock, View::Plain, Form::Packed, &TWO)?;
@@ -229,7 +233,10 @@ mod tests {
         let text = printed(rt.alloc(), detecting, View::Plain, Form::Packed, &wrong)?;
         assert_eq!(rt; text.as_slice(), b"empty 0 0\nend 1 0\n".as_slice());
         let text = printed(rt.alloc(), usual, View::Plain, Form::Packed, &wrong)?;
-        assert_eq!(rt; text.as_slice(), b"closed 1 1\nframe 7 00000000000001\nend 1 1\n".as_slice());
+        assert_eq!(rt;
+            text.as_slice(),
+            b"closed 1 1\nframe 7 00000000000001\nend 1 1\n".as_slice()
+        );
         Ok(())
     }
 

@@ -57,7 +57,7 @@ returns-then-count-eq0 g c =
       form_kept = inv.form_kept;
       printed = subst (Appends _ _)
           (ap (λ t. inv.text ++ t) (c.as_bytes.ensures.value ∙ c.in_ok-text.ensures)
-              ∙ segment_ends g.H.Hold (rules_of c.args.settings) (made (held_in g.H.Hold c.args.hold)) c.args.view (symbols_in_octets c.args.form inv.taken) inv.text _ _ inv.come c.in_ok-end_segment.ensures.passed)
+          ∙ segment_ends g.H.Hold (rules_of c.args.settings) (made (held_in g.H.Hold c.args.hold)) c.args.view (symbols_in_octets c.args.form inv.taken) inv.text _ _ inv.come c.in_ok-end_segment.ensures.passed)
           (Appends-trans _ _ _ _ _ inv.written c.in_ok-write_all.ensures.bytes);
     }
 

@@ -18,6 +18,6 @@ loop-segment-preserved g c =
     record {
       passed = passed_as (one_more_segment first c.loop-segment.yielded c.in-Some.segment)
           (passed_then g.H.Hold (placed_segments first (map symbols_in c.loop-segment.yielded)) (placed_segment (suc (first + length c.loop-segment.yielded)) more) _ _ _ inv.passed
-              (passed_as (ap (λ n. placed_segment (suc n) more) inv.place) took.passed));
+          (passed_as (ap (λ n. placed_segment (suc n) more) inv.place) took.passed));
       place = omega (arith, took.place, inv.place, length-append c.loop-segment.yielded (c.in-Some.segment ∷ []));
     }

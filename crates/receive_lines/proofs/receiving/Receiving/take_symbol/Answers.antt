@@ -29,5 +29,5 @@ returns g c =
     c.symbols.ensures.queued c.take.ensures.answer c.take.ensures.accepted c.take.ensures.refused in
     on_ok_weaker c.tell_any.result
     (λ told. symbol_passed g.H.Hold c.args.bit _ c.args.self.now _ _ (ap (place_in c.args.self.now.place.segment) c.in_ok-symbol.ensures) told
-        (passed_one g.H.Hold _ (symbol c.args.bit) c.args.self.now _ _ _ _ _ refl c.symbols.ensures.after refl c.symbols.ensures.queued took c.ok-report.ensures.value told))
+    (passed_one g.H.Hold _ (symbol c.args.bit) c.args.self.now _ _ _ _ _ refl c.symbols.ensures.after refl c.symbols.ensures.queued took c.ok-report.ensures.value told))
     c.tell_any.ensures
