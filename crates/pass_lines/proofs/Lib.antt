@@ -10,3 +10,4 @@ mod CutApart
 mod Packing
 mod Passing
 mod Laws
+mod Printed

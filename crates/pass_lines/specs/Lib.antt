@@ -8,3 +8,4 @@ pub mod Forms
 pub mod Making
 pub mod Told
 pub mod Laws
+pub mod LinesLaw

@@ -3,6 +3,7 @@
 ghost use Rattle.std.specs.Prelude.{◌≡◌, ◌≢◌, ◌<◌, ◌⊎◌, ◌∷◌, [], Ok, Err, IfOk, IfErr, length};
 ghost use Rattle.std.specs.Str.Lines.{strip_carriage_return};
 ghost use Rattle.answered_lines.specs.Lines.{lines_of};
+ghost use Rattle.pass_lines.specs.LinesLaw.{PrintedLinesGive};
 ghost use Rattle.pass_lines.specs.Cltus.{cltus_given, octets_of_each};
 ghost use Rattle.pass_lines.specs.declared.error.PassError.TheVariants.{Memory};
 
@@ -36,9 +37,11 @@ fn first_line(text: &[u8]) -> (&[u8], &[u8])
 
 /// The CLTUs that the lines of an input give, in order. A line ends with a newline, or a carriage return and a
 /// newline; the last may lack its end.
+#[tactic(auto, using(crate::proofs::Printed::printed_lines_give))]
 pub fn read_cltus(heap: Global, sender: Sender, input: &[u8]) -> Result<Vec<Vec<u8>>, PassError>
     ensures given { IfOk result (λ cltus. cltus_given sender input.now ≡ Ok (octets_of_each cltus.items)) }
     ensures bad { IfErr result (λ e. (e ≡ Memory) ⊎ (cltus_given sender input.now ≡ Err e)) }
+    ensures printed { PrintedLinesGive }
 {
     let mut cltus = Vec::new(heap);
     let mut number = 0;
