@@ -137,8 +137,10 @@ fn print_over<H: Hold + Drop, R: Read, W: Write>(
             output.write_all(text.as_bytes())?;
             return Ok(());
         }
-        receiving.take_octets(form, &piece[..count])?;
+        let taken = receiving.take_octets(form, &piece[..count]);
+        // What was written before an octet that is no bit is printed too.
         output.write_all(receiving.log.text.as_bytes())?;
+        taken?;
         receiving.clear_text();
     }
     Err(anyhow!("the input has no end"))
@@ -248,7 +250,7 @@ mod tests {
         for place in 0..144 {
             if ONE[place / 8] >> (7 - place % 8) & 1 == 1 {
                 bits[place] = 1;
-                levels[place] = 0xC0;
+                levels[place] = 0x80;
             }
         }
         let text = printed(rt.alloc(), usual, View::Places, Form::Bits, &bits)?;
@@ -256,10 +258,49 @@ mod tests {
         assert_eq!(rt; text.as_slice(), places.as_slice());
         let text = printed(rt.alloc(), usual, View::Candidates, Form::Levels, &levels)?;
         assert_eq!(rt; text.as_slice(), b"00000000000001\n".as_slice());
-        bits[99] = 2;
-        assert!(rt; printed(rt.alloc(), usual, View::Plain, Form::Bits, &bits).is_err());
         let text = answer_record(rt.alloc(), usual, View::Candidates, &ONE)?;
         assert_eq!(rt; text.as_str(), "refused 16\n");
+        Ok(())
+    }
+
+    #[test]
+    fn no_bit(rt: HostRuntime) -> Result<(), Fail> {
+        let heap = rt.alloc();
+        let mut written = Vec::new(heap);
+        let mut octets = b"\x01\0\x02\0".as_slice();
+        let ended = print_symbols(
+            heap,
+            usual()?,
+            View::Plain,
+            Form::Bits,
+            &mut octets,
+            &mut written,
+        );
+        match ended {
+            Ok(()) => assert!(rt; false),
+            Err(e) => {
+                let text = format!(in heap; "{e}")?;
+                assert_eq!(rt; text.as_str(), "symbol 3 is 2, neither 0 nor 1");
+            }
+        }
+        Ok(())
+    }
+
+    #[test]
+    fn places_in_segments(rt: HostRuntime) -> Result<(), Fail> {
+        let mut octets = [0; 45];
+        octets[..18].copy_from_slice(&ONE);
+        octets[18..20].copy_from_slice(b"\xEB\x90");
+        octets[28] = 144;
+        octets[32] = 18;
+        octets[36] = 24;
+        octets[40] = 2;
+        octets[44] = 21;
+        let text = answer_record(rt.alloc(), usual()?, View::Places, &octets)?;
+        assert_eq!(rt;
+            text.as_str(),
+            "at 1 144\nclosed 1 0\nframe 7 00000000000001\nat 2 24\ndown 0 0\nend 2 1\n"
+        );
         Ok(())
     }
 }

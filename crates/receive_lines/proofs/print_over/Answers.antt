@@ -67,7 +67,7 @@ loop-preserved g c =
     let form = c.args.form in
     let rules = rules_of c.args.settings in
     let s = made (held_in g.H.Hold c.args.hold) in
-    let took = c.in_ok-take_octets.ensures in
+    let took = c.in_ok-taken.ensures in
     let cleared = c.clear_text.ensures in
     let more = take c.in-Ok.count c.read.new.buf in
     let before = symbols_in_octets form inv.taken in
@@ -75,15 +75,15 @@ loop-preserved g c =
     ap (take c.in-Ok.count) (c.deref.ensures.value ∙ with_items_is c.loop.piece c.read.new.buf (omega (arith, c.as_mut_slice.ensures.len))) in
     let all : before ++ symbols_in_octets form (take c.in-Ok.count c.deref.result.now) ≡ symbols_in_octets form (inv.taken ++ more) =
     ap (λ l. before ++ symbols_in_octets form l) shown ∙ sym (flat_map-append (symbols_in_octet form) inv.taken more) in
-    let come = subst (λ l. InSegment g.H.Hold rules s c.args.view l inv.text c.take_octets.new.self) all
+    let come = subst (λ l. InSegment g.H.Hold rules s c.args.view l inv.text c.take_octets-taken.new.self) all
     (further g.H.Hold rules s c.args.view before (symbols_in_octets form (take c.in-Ok.count c.deref.result.now)) inv.text _ _ inv.come took.taken) in
     record {
       taken = inv.taken ++ more;
-      text = inv.text ++ string_bytes c.take_octets.new.self.log.text;
+      text = inv.text ++ string_bytes c.take_octets-taken.new.self.log.text;
       given = Consumes-trans _ _ _ _ _ inv.given c.in-Ok.ensures.bytes.0;
       written = subst (Appends _ _) (ap (λ t. inv.text ++ t) c.as_bytes-in-loop.ensures.value) (Appends-trans _ _ _ _ _ inv.written c.in_ok-write_all-2.ensures.bytes);
       form_kept = All-append (IsOfForm form) inv.taken more inv.form_kept (subst (AreOfForm form) shown took.form);
-      come = printed_too g.H.Hold rules s c.args.view (symbols_in_octets form (inv.taken ++ more)) inv.text c.take_octets.new.self _ come cleared.receiver cleared.place cleared.view cleared.reports cleared.frames cleared.text;
+      come = printed_too g.H.Hold rules s c.args.view (symbols_in_octets form (inv.taken ++ more)) inv.text c.take_octets-taken.new.self _ come cleared.receiver cleared.place cleared.view cleared.reports cleared.frames cleared.text;
       clear = cleared.text;
       room = inv.room;
     }
