@@ -127,10 +127,7 @@ mod tests {
                 Form::Record,
                 "2BEB90FF6CCB0F3DBC5330C5C5C5C5C5C5C57900000000000000980000000100000013",
             ),
-            (
-                Form::Packed,
-                "2BEB90FF6CCB0F3DBC5330C5C5C5C5C5C5C579",
-            ),
+            (Form::Packed, "2BEB90FF6CCB0F3DBC5330C5C5C5C5C5C5C579"),
             (Form::Bits, "00000100010001010101010001000101"),
             (Form::Levels, "4040C040C040C0C0C0C0C040C040C0C0"),
         ] {
