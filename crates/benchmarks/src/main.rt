@@ -812,7 +812,10 @@ fn command<'a>(heap: Global) -> Result<Command<'a>, AllocError> {
         .arg(Arg::new(heap, "WHAT"))
 }
 
-fn work(rt: &(impl Print + Clock + AllocGlobal), matches: &ArgMatches<'_>) -> Result<(), Failure> {
+fn measure(
+    rt: &(impl Print + Clock + AllocGlobal),
+    matches: &ArgMatches<'_>,
+) -> Result<(), Failure> {
     match matches.get_str("WHAT") {
         None => rt.println(HELP)?,
         Some("time") => time(rt)?,
@@ -830,6 +833,6 @@ fn main(rt: HostRuntime) -> ExitCode {
         NAME,
         command(rt.alloc()),
         &words,
-        |matches| work(&rt, matches),
+        |matches| measure(&rt, matches),
     )
 }
