@@ -1,2 +1,3 @@
 -- The arguments of the program receive. Assumes nothing.
+pub mod Command
 pub mod Asked

@@ -2,6 +2,12 @@
 //! file that it reads.
 #![tactic(auto)]
 
+ghost use Rattle.std.specs.Prelude.{◌≡◌, IfOk, codes, false};
+ghost use Rattle.clap.specs.Words.{app_of, rule_of};
+ghost use Rattle.command_line.specs.Program.{program_app};
+ghost use Rattle.receiver_options.specs.Options.{flag as plain_flag, option_with_default};
+ghost use Rattle.receive_arguments.specs.Command.{with_text_options as with_options, receive_app};
+
 mod arguments;
 
 pub use arguments::ReceiveArguments;
@@ -43,30 +49,88 @@ Where the input is no pass record, the only line is
   refused 16";
 
 // An option that takes no value.
-fn flag<'a>(heap: Global, name: &'a str, help: &'a str) -> Arg<'a> {
+fn flag<'a>(heap: Global, name: &'a str, help: &'a str) -> Arg<'a>
+    ensures rule { rule_of result ≡ plain_flag name.entry.now }
+    ensures local { result.global ≡ false }
+{
     Arg::new(heap, name)
         .long(name)
         .action(ArgAction::SetTrue)
         .help(help)
 }
 
-/// The program's arguments.
-pub fn command<'a>(heap: Global) -> Result<Command<'a>, AllocError> {
-    let command = program(heap, NAME)
-        .about("receive: runs a receiver over what was received")
-        .after_help(LINES);
-    let form = Arg::new(heap, "from")
+// The option `--from`, which is `record` where it is not given.
+fn form_option<'a>(heap: Global) -> Arg<'a>
+    ensures rule { rule_of result ≡ option_with_default (codes "from") (codes "record") }
+    ensures local { result.global ≡ false }
+{
+    Arg::new(heap, "from")
         .long("from")
         .value_name("FORM")
         .default_value("record")
-        .help("How the input is laid out: record, packed, bits or levels");
-    let places = "Before each report a line with the symbol that made it";
-    let candidates = "Only the octets of each candidate, a line each";
-    let why = "Tells on standard error what is wrong with an input that is no pass record";
-    with_receiver_options(heap, command)?
-        .arg(form)?
-        .arg(flag(heap, "places", places))?
-        .arg(flag(heap, "candidates", candidates))?
-        .arg(flag(heap, "why", why))?
-        .arg(input_file(heap))
+        .help("How the input is laid out: record, packed, bits or levels")
+}
+
+// The program's name and help.
+fn described<'a>(heap: Global) -> Command<'a>
+    ensures { app_of result ≡ program_app (codes "receive") }
+{
+    program(heap, NAME)
+        .about("receive: runs a receiver over what was received")
+        .after_help(LINES)
+}
+
+// The option `--places`.
+fn places_option<'a>(heap: Global) -> Arg<'a>
+    ensures rule { rule_of result ≡ plain_flag (codes "places") }
+    ensures local { result.global ≡ false }
+{
+    flag(
+        heap,
+        "places",
+        "Before each report a line with the symbol that made it",
+    )
+}
+
+// The option `--candidates`.
+fn candidates_option<'a>(heap: Global) -> Arg<'a>
+    ensures rule { rule_of result ≡ plain_flag (codes "candidates") }
+    ensures local { result.global ≡ false }
+{
+    flag(
+        heap,
+        "candidates",
+        "Only the octets of each candidate, a line each",
+    )
+}
+
+// The option `--why`.
+fn why_option<'a>(heap: Global) -> Arg<'a>
+    ensures rule { rule_of result ≡ plain_flag (codes "why") }
+    ensures local { result.global ≡ false }
+{
+    flag(
+        heap,
+        "why",
+        "Tells on standard error what is wrong with an input that is no pass record",
+    )
+}
+
+// Gives a command the options of what is read and printed.
+fn with_text_options(heap: Global, command: Command<'_>) -> Result<Command<'_>, AllocError>
+    ensures { IfOk result (λ changed. app_of changed ≡ with_options (app_of command.entry)) }
+{
+    command
+        .arg(form_option(heap))?
+        .arg(places_option(heap))?
+        .arg(candidates_option(heap))?
+        .arg(why_option(heap))
+}
+
+/// The program's arguments.
+pub fn command<'a>(heap: Global) -> Result<Command<'a>, AllocError>
+    ensures { IfOk result (λ made. app_of made ≡ receive_app) }
+{
+    let command = with_receiver_options(heap, described(heap))?;
+    with_text_options(heap, command)?.arg(input_file(heap))
 }
