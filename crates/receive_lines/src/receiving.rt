@@ -62,6 +62,8 @@ impl<'a, H: Hold> Receiving<'a, H> {
     }
 
     // Writes what a report tells. A candidate that was finished is written too, and released.
+    // Not inlined, since few symbols make a report.
+    #[inline(never)]
     fn tell(&mut self, report: Report) -> Result<(), ReceivingError>
         ensures { OnOk result (Tells H.Hold (report ∷ []) self.old self.new) }
     {
@@ -75,6 +77,7 @@ impl<'a, H: Hold> Receiving<'a, H> {
     }
 
     // Writes what a report tells, if there is one.
+    #[inline(always)]
     fn tell_any(&mut self, report: Option<Report>) -> Result<(), ReceivingError>
         ensures { OnOk result (Tells H.Hold (option_to_list report) self.old self.new) }
     {
@@ -85,6 +88,8 @@ impl<'a, H: Hold> Receiving<'a, H> {
     }
 
     // One symbol, and what it tells.
+    // Inlined: as a call of its own, with the error through memory, a symbol takes twice the time.
+    #[inline(always)]
     fn take_symbol(&mut self, bit: bool) -> Result<(), ReceivingError>
         ensures { OnOk result (PassedSymbols H.Hold (bit ∷ []) self.old self.new) }
     {
