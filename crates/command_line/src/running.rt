@@ -98,17 +98,24 @@ where
     }
 }
 
-// Prints the line of a failure, but for a pipe that nobody reads any more.
-fn tell<R: Eprint + AllocGlobal>(rt: &R, name: &str, failure: &Failure) -> io::Result<()> {
-    let heap = rt.alloc();
-    let line = match failure {
-        Failure::Arguments(text) => without_controls(heap, text.as_str())?,
-        Failure::Work(e) => without_controls(heap, format!(in heap; "{e:#}")?.as_str())?,
-    };
-    if line.as_str().ends_with(CLOSED_PIPE) {
-        return Ok(());
+// The line of a failure, without the program's name. Where arguments are wrong and nothing says why, memory was lacking
+// for that.
+fn line_of(heap: Global, failure: &Failure) -> Result<String, AllocError> {
+    match failure {
+        Failure::Arguments(text) if text.as_str().is_empty() => Err(AllocError),
+        Failure::Arguments(text) => without_controls(heap, text.as_str()),
+        Failure::Work(e) => without_controls(heap, format!(in heap; "{e:#}")?.as_str()),
     }
-    eprintln!(rt; "{name}: {line}")
+}
+
+// Prints the line of a failure, but for a pipe that nobody reads any more. Where memory is lacking for the line,
+// that is told: it takes none.
+fn tell<R: Eprint + AllocGlobal>(rt: &R, name: &str, failure: &Failure) -> io::Result<()> {
+    match line_of(rt.alloc(), failure) {
+        Ok(line) if line.as_str().ends_with(CLOSED_PIPE) => Ok(()),
+        Ok(line) => eprintln!(rt; "{name}: {line}"),
+        Err(e) => eprintln!(rt; "{name}: {e}"),
+    }
 }
 
 /// How a program of this name ends whose work ended so: with 0 where it was done, with 2 where the arguments are
